@@ -1,0 +1,10 @@
+pub mod Number
+pub mod Sight
+pub mod Right
+pub mod Setting
+pub mod Own
+pub mod Access
+pub mod State
+pub mod LocalStep
+pub mod Statement
+pub mod Meaning
