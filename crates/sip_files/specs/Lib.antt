@@ -1,3 +1,5 @@
 pub mod Files
 pub mod Kept
 pub mod Sink
+pub mod Plan
+pub mod Entries

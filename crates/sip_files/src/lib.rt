@@ -4,6 +4,8 @@
 mod call;
 mod fault;
 mod files;
+mod folder;
+mod plan;
 mod sink;
 
 pub use call::Call;
