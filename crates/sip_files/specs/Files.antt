@@ -1,6 +1,7 @@
 -- What files tell, what they count, and what a load of one of them may answer.
 use Rattle.std.specs.Prelude.{◌≡◌, ◌≢◌, ℕ, ◌+◌, ◌-◌, ◌^◌, ◌<◌, ◌≤◌, min, List, [], ◌++◌, length, Option, Some, None, IsSomeAnd}
 use Rattle.std.specs.FinMap as map
+use Rattle.std.specs.Coded.{Coded, coded_ℕ, coded_list}
 use Rattle.std.specs.Ordering.{nat_cmp}
 use Rattle.std.specs.Cmp.Lexicographic.{slice_cmp}
 use Rattle.sip_files.specs.declared.call.Call.{Call}
@@ -8,6 +9,10 @@ use Rattle.sip_files.specs.declared.call.Call.{Call}
 -- bytes by name
 abbrev pub Folder : Type 0
 Folder = map.FinMap (slice_cmp nat_cmp) (List ℕ)
+
+-- how a folder is told apart
+abbrev pub folder_code : Coded Folder
+folder_code = map.code (coded_list coded_ℕ) (coded_list coded_ℕ)
 
 -- a count of 64 bits went up, or stands at its end
 abbrev pub Rose : ℕ → ℕ → Type 0

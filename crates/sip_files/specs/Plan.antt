@@ -1,5 +1,5 @@
 -- Planned faults of one kind of call: which calls are to fail, counted from 1, and how many came.
-use Rattle.std.specs.Prelude.{◌≡◌, ℕ, ◌+◌, ◌-◌, ◌^◌, ◌==◌, Bool, min, cond, List, []}
+use Rattle.std.specs.Prelude.{◌≡◌, ℕ, ◌+◌, ◌-◌, ◌^◌, ◌==◌, Bool, min, cond, List, [], ◌∷◌, ◌++◌}
 use Rattle.std.specs.List.{list_any}
 
 -- the numbers of the calls that are to fail, how many calls came, and how many of them failed
@@ -31,3 +31,7 @@ after_call plan = record {
 -- after a call that failed for another reason
 abbrev pub after_refusal : Planned → Planned
 after_refusal plan = record plan { faults = one_more plan.faults }
+
+-- a plan with one more number
+abbrev pub with_number : Planned → ℕ → Planned
+with_number plan number = record plan { numbers = plan.numbers ++ number ∷ [] }

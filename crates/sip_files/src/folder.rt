@@ -23,14 +23,12 @@ struct Entry {
 }
 
 impl Model for Folder {
-    ghost use Rattle.std.specs.FinMap as map;
-    ghost use Rattle.std.specs.Coded.{coded_ℕ, coded_list};
-    ghost use Rattle.sip_files.specs.Files.{Folder as Files};
+    ghost use Rattle.sip_files.specs.Files.{Folder as Files, folder_code};
     ghost use Rattle.sip_files.specs.Entries.{folder_of};
 
     ghost Value = { Files };
 
-    ghost coded = { map.code (coded_list coded_ℕ) (coded_list coded_ℕ) };
+    ghost coded = { folder_code };
 
     ghost view = { λ f. folder_of f.entries.items };
 }

@@ -2,13 +2,18 @@
 #![tactic(auto)]
 
 mod call;
+mod counts;
 mod fault;
 mod files;
 mod folder;
+mod memory_files;
+mod memory_sink;
 mod plan;
 mod sink;
 
 pub use call::Call;
 pub use fault::{Failed, LoadFault, OutOfMemory};
 pub use files::Files;
+pub use memory_files::MemoryFiles;
+pub use memory_sink::MemorySink;
 pub use sink::Sink;

@@ -1,8 +1,8 @@
 //! Planned faults of one kind of call.
 
-ghost use Rattle.std.specs.Prelude.{◌≡◌, ◌+◌, ◌==◌, ◌++◌, [], ◌∷◌, OnOk, OnErr};
+ghost use Rattle.std.specs.Prelude.{◌≡◌, ◌+◌, ◌≤◌, ◌==◌, OnOk, OnErr};
 ghost use Rattle.std.specs.List.{list_any};
-ghost use Rattle.sip_files.specs.Plan.{unplanned, is_next, after_call, after_refusal};
+ghost use Rattle.sip_files.specs.Plan.{unplanned, with_number, is_next, after_call, after_refusal};
 
 use crate::fault::OutOfMemory;
 use std::alloc::Global;
@@ -38,7 +38,7 @@ impl Plan {
 
     /// Lets the call of this number fail, counted from 1.
     pub fn add(&mut self, number: u64) -> Result<(), OutOfMemory>
-        ensures ok { OnOk result (self.new ≡ record self.old { numbers = self.old.numbers ++ number ∷ [] }) }
+        ensures ok { OnOk result (self.new ≡ with_number self.old number) }
         ensures err { OnErr result (self.new ≡ self.old) }
     {
         self.numbers.push(number)?;
@@ -49,6 +49,7 @@ impl Plan {
     pub fn meet(&mut self) -> bool
         ensures value { result ≡ is_next self.old }
         ensures after { self.new ≡ after_call self.old }
+        ensures never_falls { self.old.faults ≤ self.new.faults }
     {
         let calls = self.calls;
         let fails = is_planned(self.numbers.as_slice(), calls);
@@ -61,7 +62,8 @@ impl Plan {
 
     /// Counts a call that failed for another reason.
     pub fn refuse(&mut self)
-        ensures { self.new ≡ after_refusal self.old }
+        ensures after { self.new ≡ after_refusal self.old }
+        ensures never_falls { self.old.faults ≤ self.new.faults }
     {
         self.faults = self.faults.saturating_add(1);
     }
