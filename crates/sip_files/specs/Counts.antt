@@ -11,3 +11,12 @@ count_of counts Clear = counts.clear
 count_of counts Append = counts.append
 count_of counts ReadAt = counts.read_at
 count_of counts WriteAt = counts.write_at
+
+-- no call failed
+abbrev pub no_faults : Counts
+no_faults = record { load = 0; clear = 0; append = 0; read_at = 0; write_at = 0 }
+
+-- what the host's files count: faults of each kind, and loads that read more than their limit
+pub record HostCounts : Type 0 where
+  pub faults : Counts
+  pub overlong : ℕ
