@@ -1,0 +1,58 @@
+-- What files tell, what they count, and what a load of one of them may answer.
+use Rattle.std.specs.Prelude.{◌≡◌, ◌≢◌, ℕ, ◌+◌, ◌-◌, ◌^◌, ◌<◌, ◌≤◌, min, List, [], ◌++◌, length, Option, Some, None, IsSomeAnd}
+use Rattle.std.specs.FinMap as map
+use Rattle.std.specs.Coded.{Coded, coded_ℕ, coded_list}
+use Rattle.std.specs.Ordering.{nat_cmp}
+use Rattle.std.specs.Cmp.Lexicographic.{slice_cmp}
+use Rattle.sip_files.specs.declared.call.Call.{Call}
+
+-- bytes by name
+abbrev pub Folder : Type 0
+Folder = map.FinMap (slice_cmp nat_cmp) (List ℕ)
+
+-- how a folder is told apart
+abbrev pub folder_code : Coded Folder
+folder_code = map.code (coded_list coded_ℕ) (coded_list coded_ℕ)
+
+-- a count of 64 bits went up, or stands at its end
+abbrev pub Rose : ℕ → ℕ → Type 0
+Rose before now = min (before + 1) (2 ^ 64 - 1) ≤ now
+
+-- no count falls, and those of other kinds stay
+pub record CountsOnly (call : Call) (before now : Call → ℕ) : Type 0 where
+  pub later : before call ≤ now call
+  pub others : (other : Call) → other ≢ call → now other ≡ before other
+
+-- a count of loads that read more than their limit: this load raises it only where it is one of them
+pub record CountsOverlong (before now most : ℕ) (read : List ℕ) : Type 0 where
+  pub later : before ≤ now
+  pub only : before < now → most < length read
+
+-- a fact about what a name has, where the files tell it
+abbrev pub WhereTold : Option Folder → List ℕ → (Option (List ℕ) → Type 0) → Type 0
+WhereTold None name fact = Unit {0}
+WhereTold (Some files) name fact = fact (map.get files name)
+
+-- the first list begins the second
+abbrev pub IsPrefix : List ℕ → List ℕ → Type 0
+IsPrefix part whole = (rest : List ℕ) × (whole ≡ part ++ rest)
+
+-- the first bytes of what a name has, and none where it has nothing
+abbrev pub IsPartOf : List ℕ → Option (List ℕ) → Type 0
+IsPartOf part None = part ≡ []
+IsPartOf part (Some held) = IsPrefix part held
+
+-- the files tell that they don't have the name
+abbrev pub IsMissing : Option Folder → List ℕ → Type 0
+IsMissing None name = ⊥
+IsMissing (Some files) name = map.get files name ≡ None
+
+-- more bytes were read than this, and the count of such loads rose
+pub record ReadsMore (before now most : ℕ) (read : List ℕ) : Type 0 where
+  pub bytes : most < length read
+  pub counted : Rose before now
+
+-- the file is longer than this, as far as the files tell, and else more than this was read
+abbrev pub IsTooLong : Option Folder → List ℕ → ℕ → ℕ → ℕ → List ℕ → Type 0
+IsTooLong None name most before now read = ReadsMore before now most read
+IsTooLong (Some files) name most before now read = IsSomeAnd (map.get files name) (λ held. most < length held)

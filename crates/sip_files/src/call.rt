@@ -1,0 +1,11 @@
+//! The kinds of call that files answer.
+
+/// A kind of call; files count their faults for each.
+#[derive(Clone, Copy, Debug, PartialEq, Eq)]
+pub enum Call {
+    Load,
+    Clear,
+    Append,
+    ReadAt,
+    WriteAt,
+}

@@ -1,0 +1,109 @@
+//! The host's files, by the runtime's few calls.
+
+ghost use Rattle.std.specs.Prelude.{◌≡◌, ◌<◌, ◌≤◌, [], Ok, true, vec_len, OnOk, IsErrOf};
+
+use crate::call::Call;
+use crate::counts::Counts;
+use crate::fault::LoadFault;
+use crate::files::Files;
+use std::fs;
+use std::io::{ErrorKind, Read};
+use std::marker::Model;
+
+/// The host's files. They tell no content, and count each error.
+#[derive(Drop)]
+pub struct HostFiles<'a, R: std::rt::Files> {
+    runtime: &'a R,
+    faults: Counts,
+    overlong: u64,
+}
+
+impl<'a, R: std::rt::Files> Model for HostFiles<'a, R> {
+    ghost use Rattle.sip_files.specs.Counts.{HostCounts};
+
+    ghost Value = { HostCounts };
+
+    ghost view = { λ f. record { faults = f.faults; overlong = f.overlong } };
+}
+
+impl<'a, R: std::rt::Files> HostFiles<'a, R> {
+    ghost use Rattle.sip_files.specs.Counts.{no_faults};
+
+    /// No call failed yet.
+    pub fn new(runtime: &'a R) -> HostFiles<'a, R>
+        ensures { result ≡ record { faults = no_faults; overlong = 0 } }
+    {
+        HostFiles {
+            runtime,
+            faults: Counts::default(),
+            overlong: 0,
+        }
+    }
+}
+
+impl<'a, R: std::rt::Files> Files for HostFiles<'a, R> {
+    ghost use Rattle.std.specs.Prelude.{[], None};
+    ghost use Rattle.sip_files.specs.Counts.{count_of};
+
+    ghost told = { λ _. None };
+
+    ghost faults = { λ f. count_of f.faults };
+
+    ghost overlong = { λ f. f.overlong };
+
+    ghost loans = { λ _. [] };
+
+    fn load(&mut self, name: &str, into: &mut Vec<u8>, most: u64) -> Result<(), LoadFault> {
+        let answer = read_file(self.runtime, name, into, most);
+        match answer {
+            Err(LoadFault::Failed) => self.faults.raise(Call::Load),
+            Err(LoadFault::TooLong) => self.overlong = self.overlong.saturating_add(1),
+            _ => {}
+        }
+        answer
+    }
+}
+
+// Reads a file in pieces, up to its end or past the limit.
+fn read_file<R: std::rt::Files>(
+    runtime: &R,
+    name: &str,
+    into: &mut Vec<u8>,
+    most: u64,
+) -> Result<(), LoadFault>
+    requires { into.old.items ≡ [] }
+    ensures within { OnOk result (vec_len into.new ≤ most) }
+    ensures long { IsErrOf result LoadFault.TooLong → most < vec_len into.new }
+    ensures missing { IsErrOf result LoadFault.Missing → ⊥ }
+{
+    let Ok(mut file) = fs::open(runtime, name) else {
+        return Err(LoadFault::Failed);
+    };
+    for _ in 0..u64::MAX {
+        if read_piece(&mut file, into)? {
+            return Ok(());
+        }
+        if into.len() as u64 > most {
+            return Err(LoadFault::TooLong);
+        }
+    }
+    Err(LoadFault::Failed)
+}
+
+// Reads one more piece, and answers whether the file is at its end. An interrupted read is one that read nothing.
+fn read_piece(file: &mut impl Read, into: &mut Vec<u8>) -> Result<bool, LoadFault>
+    ensures end { result ≡ Ok true → vec_len into.new ≡ vec_len into.old }
+    ensures long { IsErrOf result LoadFault.TooLong → ⊥ }
+    ensures missing { IsErrOf result LoadFault.Missing → ⊥ }
+{
+    let mut piece = [0u8; 4096];
+    match file.read(&mut piece) {
+        Ok(0) => Ok(true),
+        Ok(count) => {
+            into.extend_from_slice(&piece[..count])?;
+            Ok(false)
+        }
+        Err(error) if error.kind() == ErrorKind::Interrupted => Ok(false),
+        Err(_) => Err(LoadFault::Failed),
+    }
+}

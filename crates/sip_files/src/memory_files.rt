@@ -1,0 +1,134 @@
+//! Files in memory, with planned faults.
+
+ghost use Rattle.std.specs.Prelude.{◌≡◌, ◌↔◌, ◌<◌, ◌≤◌, [], Some, None, length, option_map, IsSomeAnd, IsTrue, OnOk, OnErr, IsErrOf};
+ghost use Rattle.std.specs.FinMap as map;
+ghost use Rattle.sip_files.specs.Files.{CountsOnly, IsPartOf};
+ghost use Rattle.sip_files.specs.Plan.{is_next};
+ghost use Rattle.sip_files.specs.MemoryFiles.{no_files, with_planned, faults_of, after_load};
+
+use crate::call::Call;
+use crate::fault::{LoadFault, OutOfMemory};
+use crate::files::Files;
+use crate::folder::Folder;
+use crate::plan::Plan;
+use std::alloc::Global;
+use std::marker::Model;
+
+/// Files in memory. They tell their content, and fail where that was planned.
+#[derive(Drop)]
+pub struct MemoryFiles {
+    files: Folder,
+    load: Plan,
+    clear: Plan,
+    append: Plan,
+    read_at: Plan,
+    write_at: Plan,
+    refused: u64,
+}
+
+impl Model for MemoryFiles {
+    ghost use Rattle.sip_files.specs.MemoryFiles.{FilesInMemory};
+
+    ghost use Rattle.std.specs.Coded.{codes};
+    ghost use Rattle.sip_files.specs.Files.{folder_code};
+
+    ghost Value = { FilesInMemory };
+
+    ghost coded = { Prim.hlevel (codes, folder_code) };
+
+    ghost view = { λ m. record { files = m.files; plans = record { load = m.load; clear = m.clear; append = m.append; read_at = m.read_at; write_at = m.write_at }; refused = m.refused } };
+}
+
+impl MemoryFiles {
+    /// No file, and nothing planned.
+    pub fn new(alloc: Global) -> MemoryFiles
+        ensures { result ≡ no_files }
+    {
+        MemoryFiles {
+            files: Folder::new(alloc),
+            load: Plan::new(alloc),
+            clear: Plan::new(alloc),
+            append: Plan::new(alloc),
+            read_at: Plan::new(alloc),
+            write_at: Plan::new(alloc),
+            refused: 0,
+        }
+    }
+
+    /// Gives a name these bytes, in place of what it had.
+    pub fn put(&mut self, name: &str, bytes: &[u8]) -> Result<(), OutOfMemory>
+        ensures ok { OnOk result (self.new ≡ record self.old { files = map.insert self.old.files name.now bytes.now }) }
+        ensures err { OnErr result (self.new ≡ self.old) }
+    {
+        self.files.put(name.as_bytes(), bytes)
+    }
+
+    /// Lets the call of this kind and number fail, counted from 1 since `new`; it then changes nothing.
+    pub fn fail(&mut self, call: Call, nth: u64) -> Result<(), OutOfMemory>
+        ensures ok { OnOk result (self.new ≡ record self.old { plans = with_planned self.old.plans call nth }) }
+        ensures err { OnErr result (self.new ≡ self.old) }
+    {
+        match call {
+            Call::Load => self.load.add(nth),
+            Call::Clear => self.clear.add(nth),
+            Call::Append => self.append.add(nth),
+            Call::ReadAt => self.read_at.add(nth),
+            Call::WriteAt => self.write_at.add(nth),
+        }
+    }
+
+    /// The bytes of a name.
+    pub fn held(&self, name: &str) -> Option<&[u8]>
+        ensures { option_map (λ bytes. bytes.now) result ≡ map.get self.now.files name.now }
+    {
+        self.files.get(name.as_bytes())
+    }
+
+    /// How many growths found no memory, each a counted fault.
+    pub fn refused(&self) -> u64
+        ensures { result ≡ self.now.refused }
+    {
+        self.refused
+    }
+}
+
+impl Files for MemoryFiles {
+    ghost use Rattle.sip_files.specs.declared.call.Call.TheVariants.{Load};
+
+    ghost told = { λ m. Some m.files };
+
+    ghost faults = { faults_of };
+
+    ghost overlong = { λ _. 0 };
+
+    ghost loans = { λ _. [] };
+
+    #[tactic(auto, using(crate::proofs::FilesLemmas::empty_is_part))]
+    fn load(&mut self, name: &str, into: &mut Vec<u8>, most: u64) -> Result<(), LoadFault>
+        requires { into.old.items ≡ [] }
+
+        ensures ok { OnOk result (map.get self.old.files name.now ≡ Some into.new.items) }
+        ensures within { OnOk result (length into.new.items ≤ most) }
+        ensures err { OnErr result (into.new.items ≡ []) }
+        ensures part { OnErr result (IsPartOf into.new.items (map.get self.old.files name.now)) }
+        ensures missing { IsErrOf result LoadFault.Missing → map.get self.old.files name.now ≡ None }
+        ensures long { IsErrOf result LoadFault.TooLong → IsSomeAnd (map.get self.old.files name.now) (λ held. most < length held) }
+
+        // The load fails exactly where that was planned, and nothing but its count changes.
+        ensures planned { IsErrOf result LoadFault.Failed ↔ IsTrue (is_next self.old.plans.load) }
+        ensures after { self.new ≡ after_load self.old }
+        ensures counts { CountsOnly Load (faults_of self.old) (faults_of self.new) }
+    {
+        if self.load.meet() {
+            return Err(LoadFault::Failed);
+        }
+        let Some(held) = self.files.get(name.as_bytes()) else {
+            return Err(LoadFault::Missing);
+        };
+        if held.len() as u64 > most {
+            return Err(LoadFault::TooLong);
+        }
+        into.extend_from_slice(held)?;
+        Ok(())
+    }
+}
