@@ -1,5 +1,5 @@
 -- Boxes of tuples: each member counted from 0 and below its length, the last member fastest.
-use Rattle.std.specs.Prelude.{ℕ, zero, suc, ◌+◌, ◌*◌, ◌/◌, ◌%◌, ◌<◌, List, [], ◌∷◌, ◌++◌, map, flat_map, get_or}
+use Rattle.std.specs.Prelude.{ℕ, zero, suc, ◌+◌, ◌*◌, ◌/◌, ◌%◌, ◌<◌, List, [], ◌∷◌, map, flat_map}
 
 -- the numbers from `first` on, so many
 abbrev pub numbers_from : ℕ → ℕ → List ℕ

@@ -1,11 +1,11 @@
 -- What indices run over: segments of their kind, pieces of segments, and the blocks of arrays.
-use Rattle.std.specs.Prelude.{ℕ, ◌+◌, ◌-◌, ◌*◌, ◌/◌, min, List, [], ◌∷◌, map, take, drop, sum, sum_by, length, Bool, true, false, ◌==◌, slice_index_or, filter}
+use Rattle.std.specs.Prelude.{ℕ, ◌+◌, ◌-◌, ◌*◌, ◌/◌, min, List, [], ◌∷◌, map, take, sum, sum_by, length, Bool, true, false, slice_index_or, filter}
 use Rattle.sial_syntax.specs.declared.index.Kind.{Kind}
 use Rattle.sial_syntax.specs.declared.index.Kind.TheVariants.{Ao, Mo, Moa, Mob, Index}
 use Rattle.sial_syntax.specs.declared.array.ArrayDecl.{ArrayDecl}
 use Rattle.sial_syntax.specs.declared.array.ArrayKind.{ArrayKind}
 use Rattle.sial_syntax.specs.declared.array.ArrayKind.TheVariants.{Static, Temp, Local, Distributed, Served}
-use Rattle.sial_syntax.specs.Boxes.{volume, place_of, tuple_at, numbers_from}
+use Rattle.sial_syntax.specs.Boxes.{volume, place_of, tuple_at}
 
 -- where something lies: its first position, counted from 1, and how many positions it has
 pub record Extent : Type 0 where

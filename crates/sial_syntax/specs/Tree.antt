@@ -14,7 +14,7 @@ use Rattle.sial_syntax.specs.declared.program.Program.{Program}
 use Rattle.sial_syntax.specs.declared.statement.Stmt.{Stmt}
 use Rattle.sial_syntax.specs.declared.statement.Form.TheOpen as form
 use Rattle.sial_syntax.specs.declared.statement.Form.TheOpen.{Form-F, Stmt-F}
-use Rattle.sial_syntax.specs.declared.statement.Form.TheFolds.{fold-Form, fold-Stmt}
+use Rattle.sial_syntax.specs.declared.statement.Form.TheFolds.{fold-Stmt}
 
 mutual
   -- statements in order, each with its text line
