@@ -1,8 +1,8 @@
 -- Accesses to shared blocks, their log, which of them may stand together, and the mark that a block keeps.
-use Rattle.std.specs.Prelude.{ℕ, List, [], ◌∷◌, ◌++◌, Bool, true, false, ◌==◌, ◌&&◌, not, if◌then◌else◌, Option, Some, None, find, IsTrue}
+use Rattle.std.specs.Prelude.{ℕ, List, [], ◌∷◌, ◌++◌, Bool, true, false, ◌==◌, ◌&&◌, not, if◌then◌else◌, Option, Some, None, find}
 use Rattle.std.specs.List.{list_any}
 use Rattle.sial_syntax.specs.declared.access.Access.{Access}
-use Rattle.sial_syntax.specs.declared.access.Access.TheVariants.{Read, Add, Max, Store}
+use Rattle.sial_syntax.specs.declared.access.Access.TheVariants.{Read, Add, Max}
 use Rattle.sial_syntax.specs.declared.access.Class.{Class}
 use Rattle.sial_syntax.specs.declared.access.Class.TheVariants.{Distributed, Served}
 use Rattle.sial_meaning.specs.declared.clash.Clash.{Clash}

@@ -8,3 +8,7 @@ pub mod State
 pub mod LocalStep
 pub mod Statement
 pub mod Meaning
+pub mod Rest
+pub mod Accepted
+pub mod Costs
+pub mod Course

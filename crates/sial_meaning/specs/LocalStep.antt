@@ -1,5 +1,5 @@
 -- What one statement does to what a worker holds, given the values of its shared operands.
-use Rattle.std.specs.Prelude.{ℕ, zero, suc, ◌+◌, ◌-◌, ◌*◌, ◌%◌, ◌^◌, List, [], ◌∷◌, ◌++◌, map, drop, take, sum_by, zip, length, is_some, Bool, true, false, ◌==◌, ◌&&◌, ◌||◌, not, if◌then◌else◌, slice_index_or, slice_set, Option, Some, None, Result, Ok, Err, unwrap_or, decimal, codes, IsTrue}
+use Rattle.std.specs.Prelude.{ℕ, ◌+◌, ◌-◌, ◌*◌, ◌%◌, ◌^◌, List, [], ◌∷◌, ◌++◌, map, drop, length, is_some, Bool, true, false, ◌||◌, not, if◌then◌else◌, slice_index_or, slice_set, Option, Some, None, Result, Ok, Err, unwrap_or, decimal, codes}
 use Rattle.std.specs.List.{list_any, flat_map}
 use Rattle.sial_syntax.specs.declared.array.ArrayKind.{ArrayKind}
 use Rattle.sial_syntax.specs.declared.array.ArrayKind.TheVariants.{Static, Temp, Local, Distributed, Served}
@@ -18,11 +18,11 @@ use Rattle.sial_syntax.specs.declared.operand.Target.{Target}
 use Rattle.sial_syntax.specs.declared.operand.Target.TheVariants as target
 use Rattle.sial_syntax.specs.Boxes.{numbers_from, place_of, tuples}
 use Rattle.sial_syntax.specs.Spaces.{first_of, count_of, box_of, Extent}
-use Rattle.sial_syntax.specs.Tree.{Plain, Do, DoIn, Pardo, If, IfElse, Call, Assign, Get, Request, Put, Prepare, Create, Delete, Allocate, Deallocate, Collective, SipBarrier, ServerBarrier, Print, PrintScalar, Integrals}
+use Rattle.sial_syntax.specs.Tree.{Plain, Assign, Allocate, Deallocate, Print, PrintScalar, Integrals}
 use Rattle.sial_meaning.specs.declared.trap.TrapKind.{TrapKind}
-use Rattle.sial_meaning.specs.declared.trap.TrapKind.TheVariants.{UnsetBlock, UnsetScalar, NotCreated, AlreadyCreated, LocalMissing, LocalTwice}
+use Rattle.sial_meaning.specs.declared.trap.TrapKind.TheVariants.{UnsetBlock, UnsetScalar, LocalMissing, LocalTwice}
 use Rattle.sial_meaning.specs.Number.{combined}
-use Rattle.sial_meaning.specs.Sight.{Sight, lengths, offsets}
+use Rattle.sial_meaning.specs.Sight.{Sight, lengths}
 use Rattle.sial_meaning.specs.Right.{Term, Plain as Uniform, Shown, Side, Alone, Joined, side_at, assigned, is_insertion}
 use Rattle.sial_meaning.specs.Setting.{Setting, array_kind, dims_of, scalar_class, scalar_name, zeros}
 use Rattle.sial_meaning.specs.Own.{Own, Held, value_of, sight, number_of, members_of, same_members, static_block, with_static, temp_of, with_temp, local_block, with_local, scalar_of, with_scalar}
@@ -150,8 +150,8 @@ with_words g block words own Served = own
 abbrev pub to_block : Setting → BlockRef → Op → Side → Own → List ℕ → Answer Done
 to_block g block op side own partials =
     and_then
-      (old_words g own block (needs_old op || is_insertion g.spaces block.at side) (array_kind g block.array))
-      (λ old. quiet (with_words g block (assigned g.spaces op (sight g own block old) side) own (array_kind g block.array)) partials)
+    (old_words g own block (needs_old op || is_insertion g.spaces block.at side) (array_kind g block.array))
+    (λ old. quiet (with_words g block (assigned g.spaces op (sight g own block old) side) own (array_kind g block.array)) partials)
 
 -- an assignment whose right side was read
 abbrev pub to_target : Setting → Target → Op → Side → Own → List ℕ → Answer Done
@@ -216,8 +216,8 @@ integrals target = map (λ t. integral 1 (whole_positions target.extents t) % 2 
 abbrev pub integrated : Setting → BlockRef → Own → List ℕ → Answer Done
 integrated g block own partials =
     and_then
-      (old_words g own block false (array_kind g block.array))
-      (λ old. quiet (with_words g block (integrals (sight g own block [])) own (array_kind g block.array)) partials)
+    (old_words g own block false (array_kind g block.array))
+    (λ old. quiet (with_words g block (integrals (sight g own block [])) own (array_kind g block.array)) partials)
 
 -- the line of `print_scalar`
 abbrev pub scalar_line : Setting → (scalar number : ℕ) → List ℕ

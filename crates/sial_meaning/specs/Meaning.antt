@@ -1,5 +1,5 @@
 -- The meaning of a program: a fold over its tree that stops at a trap.
-use Rattle.std.specs.Prelude.{ℕ, zero, suc, ◌+◌, List, [], ◌∷◌, map, Bool, true, false, ◌==◌, not, nat_lt, nat_le, Ok, Err}
+use Rattle.std.specs.Prelude.{ℕ, zero, suc, List, [], ◌∷◌, map, Bool, true, false, ◌==◌, not, nat_lt, nat_le, Ok, Err}
 use Rattle.std.specs.List.{list_all}
 use Rattle.sial_syntax.specs.declared.condition.Cond.{Cond}
 use Rattle.sial_syntax.specs.declared.condition.Test.{Test}
@@ -8,7 +8,7 @@ use Rattle.sial_syntax.specs.declared.condition.Value.{Value}
 use Rattle.sial_syntax.specs.declared.condition.Value.TheVariants.{Number, Scalar, Index}
 use Rattle.sial_syntax.specs.Boxes.{numbers_from, tuples}
 use Rattle.sial_syntax.specs.Spaces.{first_of, count_of, box_of, onto_firsts, pieces_of}
-use Rattle.sial_syntax.specs.Tree.{Block, End, Then, Plain, Do, DoIn, Pardo, If, IfElse, Call, Assign, Get, Request, Put, Prepare, Create, Delete, Allocate, Deallocate, Collective, SipBarrier, ServerBarrier, Print, PrintScalar, Integrals}
+use Rattle.sial_syntax.specs.Tree.{Block, End, Then, Plain, Do, DoIn, Pardo, If, IfElse, Call}
 use Rattle.sial_meaning.specs.declared.trap.TrapKind.TheVariants.{UnsetScalar}
 use Rattle.sial_meaning.specs.Setting.{Setting, procedure_body}
 use Rattle.sial_meaning.specs.Own.{Own, value_of, bound, all_bound, none_bound, with_values, unset, scalar_of}
@@ -102,8 +102,8 @@ abbrev mutual
       then_own (over (pieces_over g s.own sub index) (λ k t. block_meaning reading g call body (on_own (bound sub k) t)) s) (bound sub 0)
   form_meaning reading g call line (Pardo indices wheres body) s =
       then_own
-        (over (tuples (box_of g.spaces indices)) (λ tuple t. iteration wheres (block_meaning reading g call body) (on_own (taken_up g indices tuple) t)) (on_own (unset g) s))
-        (left g indices)
+      (over (tuples (box_of g.spaces indices)) (λ tuple t. iteration wheres (block_meaning reading g call body) (on_own (taken_up g indices tuple) t)) (on_own (unset g) s))
+      (left g indices)
   form_meaning reading g call line (If test body) s = chosen line (condition s.own test) (block_meaning reading g call body) Went s
   form_meaning reading g call line (IfElse test body other) s = chosen line (condition s.own test) (block_meaning reading g call body) (block_meaning reading g call other) s
   form_meaning reading g call line (Call procedure) s = call procedure s

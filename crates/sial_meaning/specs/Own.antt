@@ -1,9 +1,7 @@
 -- What one worker holds of its own: index numbers, scalars, statics, temps, locals and created flags.
-use Rattle.std.specs.Prelude.{ℕ, zero, suc, ◌+◌, List, [], ◌∷◌, map, Bool, true, false, ◌==◌, ◌&&◌, if◌then◌else◌, slice_index_or, slice_set, replicate, length, Option, Some, None, find, option_map, unwrap_or}
-use Rattle.sial_syntax.specs.Boxes.{numbers_from, place_of}
-use Rattle.sial_syntax.specs.Spaces.{Spaces, Span, Segments, Pieces, span_of, box_of, from_firsts, extent, rank_of}
-use Rattle.sial_syntax.specs.Tree.{Tree}
-use Rattle.sial_syntax.specs.declared.array.ArrayDecl.{ArrayDecl}
+use Rattle.std.specs.Prelude.{ℕ, List, [], ◌∷◌, map, Bool, true, false, ◌==◌, ◌&&◌, slice_index_or, slice_set, replicate, length, Option, Some, None, find}
+use Rattle.sial_syntax.specs.Boxes.{numbers_from}
+use Rattle.sial_syntax.specs.Spaces.{Span, Segments, Pieces, span_of, extent, rank_of}
 use Rattle.sial_syntax.specs.declared.array.ArrayKind.{ArrayKind}
 use Rattle.sial_syntax.specs.declared.array.ArrayKind.TheVariants.{Static, Temp, Local, Distributed, Served}
 use Rattle.sial_syntax.specs.declared.classes.ScalarClass.{ScalarClass}
@@ -71,10 +69,10 @@ unset_if_inner Unused blocks = blocks
 -- temps, private scalars and the local arrays used inside pardos, all unset
 abbrev pub unset : Setting → Own → Own
 unset g own = record own {
-    scalars = for_each (length own.scalars) (λ s. unset_if_private (scalar_class g s) (slice_index_or own.scalars s None));
-    temps = map (λ held. None) own.temps;
-    locals = for_each (length own.locals) (λ a. unset_if_inner (side_of g a) (slice_index_or own.locals a []));
-  }
+  scalars = for_each (length own.scalars) (λ s. unset_if_private (scalar_class g s) (slice_index_or own.scalars s None));
+  temps = map (λ held. None) own.temps;
+  locals = for_each (length own.locals) (λ a. unset_if_inner (side_of g a) (slice_index_or own.locals a []));
+}
 
 -- the member of a temp's tuple that an index names: its segment, or the segment that it cuts and its piece
 abbrev pub member_of : Own → ℕ → Span → ℕ × ℕ
@@ -174,10 +172,10 @@ start_scalar Partial number = None
 -- what a worker holds as the program begins
 abbrev pub start_own : Setting → Own
 start_own g = record {
-    values = replicate (length g.program.indices) 0;
-    scalars = for_each (length g.program.scalars) (λ s. start_scalar (scalar_class g s) (slice_index_or g.numbers s 0));
-    statics = for_each (length g.program.arrays) (λ a. start_statics g a (array_kind g a));
-    temps = replicate (length g.program.arrays) None;
-    locals = for_each (length g.program.arrays) (λ a. start_locals g a (array_kind g a));
-    created = replicate (length g.program.arrays) false;
-  }
+  values = replicate (length g.program.indices) 0;
+  scalars = for_each (length g.program.scalars) (λ s. start_scalar (scalar_class g s) (slice_index_or g.numbers s 0));
+  statics = for_each (length g.program.arrays) (λ a. start_statics g a (array_kind g a));
+  temps = replicate (length g.program.arrays) None;
+  locals = for_each (length g.program.arrays) (λ a. start_locals g a (array_kind g a));
+  created = replicate (length g.program.arrays) false;
+}

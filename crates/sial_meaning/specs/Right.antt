@@ -1,5 +1,5 @@
 -- The value of a right side at places, and the block that an assignment makes of its target.
-use Rattle.std.specs.Prelude.{ℕ, ◌+◌, ◌*◌, ◌%◌, ◌^◌, List, [], ◌∷◌, ◌++◌, map, Bool, true, false, ◌==◌, ◌&&◌, not, Option, Some, None, filter, zip, sum_by, unwrap_or}
+use Rattle.std.specs.Prelude.{ℕ, ◌*◌, ◌%◌, ◌^◌, List, ◌++◌, map, Bool, false, ◌==◌, ◌&&◌, not, Option, Some, None, filter, zip, sum_by, unwrap_or}
 use Rattle.std.specs.List.{list_any}
 use Rattle.sial_syntax.specs.Boxes.{tuples}
 use Rattle.sial_syntax.specs.Spaces.{Spaces, Extent}
@@ -46,8 +46,8 @@ dim_lengths dims = map (λ (d : ℕ × Extent). d.1.len) dims
 abbrev pub product_at : Spaces → Places → Sight → Sight → ℕ
 product_at spaces places a b =
     sum_by
-      (λ t. unwrap_or (both (λ x y. x * y) (element spaces (places ++ places_at (shared_dims a b) t) a) (element spaces (places ++ places_at (shared_dims a b) t) b)) 0)
-      (tuples (dim_lengths (shared_dims a b)))
+    (λ t. unwrap_or (both (λ x y. x * y) (element spaces (places ++ places_at (shared_dims a b) t) a) (element spaces (places ++ places_at (shared_dims a b) t) b)) 0)
+    (tuples (dim_lengths (shared_dims a b)))
     % 2 ^ 64
 
 -- two operands at places

@@ -1,15 +1,15 @@
 -- A program with its classes, its spaces and its start values: all that a meaning depends on.
-use Rattle.std.specs.Prelude.{ℕ, ◌+◌, List, [], ◌∷◌, map, Bool, true, false, ◌==◌, slice_index_or, replicate, filter, length, take, sum_by, Option, Some, None}
+use Rattle.std.specs.Prelude.{ℕ, List, [], slice_index_or, replicate, Option, Some, None}
 use Rattle.sial_syntax.specs.declared.array.ArrayDecl.{ArrayDecl}
 use Rattle.sial_syntax.specs.declared.array.ArrayKind.{ArrayKind}
 use Rattle.sial_syntax.specs.declared.array.ArrayKind.TheVariants.{Static, Temp, Local, Distributed, Served}
 use Rattle.sial_syntax.specs.declared.access.Class.{Class}
 use Rattle.sial_syntax.specs.declared.access.Class.TheVariants as class
 use Rattle.sial_syntax.specs.declared.classes.ScalarClass.{ScalarClass}
-use Rattle.sial_syntax.specs.declared.classes.ScalarClass.TheVariants.{Replicated, Private, Partial}
+use Rattle.sial_syntax.specs.declared.classes.ScalarClass.TheVariants.{Replicated}
 use Rattle.sial_syntax.specs.declared.classes.Side.{Side}
-use Rattle.sial_syntax.specs.declared.classes.Side.TheVariants.{Outer, Inner, Unused}
-use Rattle.sial_syntax.specs.Tree.{Tree, Block, End, Procedure}
+use Rattle.sial_syntax.specs.declared.classes.Side.TheVariants.{Unused}
+use Rattle.sial_syntax.specs.Tree.{Tree, Block, End}
 use Rattle.sial_syntax.specs.Spaces.{Spaces, blocks_of, first_block, words_in, numbers_at}
 
 -- a block that the input gives: its array, its number within the array, and its elements

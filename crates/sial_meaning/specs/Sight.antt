@@ -1,6 +1,5 @@
 -- Blocks where they are named: the positions that they lie on, and their elements by position.
-use Rattle.std.specs.Prelude.{ℕ, ◌+◌, ◌-◌, List, [], ◌∷◌, map, Bool, true, false, ◌==◌, ◌&&◌, ◌||◌, not, if◌then◌else◌, nat_lt, nat_le, Option, Some, None, find, zip, slice_index_or}
-use Rattle.std.specs.List.{list_any}
+use Rattle.std.specs.Prelude.{ℕ, ◌+◌, ◌-◌, List, [], ◌∷◌, map, Bool, true, false, ◌==◌, ◌&&◌, ◌||◌, if◌then◌else◌, nat_lt, nat_le, Option, Some, None, find, slice_index_or}
 use Rattle.sial_syntax.specs.Boxes.{place_of}
 use Rattle.sial_syntax.specs.Spaces.{Spaces, Span, Segments, Pieces, Extent, span_of}
 

@@ -1,11 +1,11 @@
 -- The state of the sequential meaning: what the one worker holds, the shared blocks, epochs, printed lines and the log.
-use Rattle.std.specs.Prelude.{ℕ, ◌+◌, List, [], ◌∷◌, ◌++◌, map, zip, replicate, length, slice_index_or, slice_set, Option, Some, None}
-use Rattle.std.specs.List.{flat_map, enumerate_from}
+use Rattle.std.specs.Prelude.{ℕ, ◌+◌, List, [], ◌∷◌, ◌++◌, map, zip, replicate, length, slice_index_or, slice_set}
+use Rattle.std.specs.List.{flat_map}
 use Rattle.sial_syntax.specs.declared.access.Access.{Access}
 use Rattle.sial_syntax.specs.declared.access.Class.{Class}
 use Rattle.sial_syntax.specs.declared.access.Class.TheVariants as class
 use Rattle.sial_syntax.specs.declared.array.ArrayKind.{ArrayKind}
-use Rattle.sial_syntax.specs.declared.array.ArrayKind.TheVariants.{Static, Temp, Local, Distributed, Served}
+use Rattle.sial_syntax.specs.declared.array.ArrayKind.TheVariants.{Distributed, Served}
 use Rattle.sial_syntax.specs.declared.operand.BlockRef.{BlockRef}
 use Rattle.sial_meaning.specs.Number.{accessed}
 use Rattle.sial_meaning.specs.Setting.{Setting, array_kind, block_count, first_of_class, zeros}
@@ -77,9 +77,9 @@ logged s class block kind line =
 -- the state after an epoch of a class ended: the copies of the class are those of now
 abbrev pub epoch_ended : Class → State → State
 epoch_ended class s = record s {
-    epochs = next_epoch s.epochs class;
-    copies = with_class s.copies class (blocks_of_class s.shared class);
-  }
+  epochs = next_epoch s.epochs class;
+  copies = with_class s.copies class (blocks_of_class s.shared class);
+}
 
 -- the number of a shared block among all blocks of its class
 abbrev pub shared_number : Setting → Own → BlockRef → ℕ
@@ -113,11 +113,11 @@ start_blocks g class = flat_map (λ a. start_shared g class a (array_kind g a)) 
 -- the state as the program begins
 abbrev pub start_state : Setting → State
 start_state g = record {
-    own = start_own g;
-    partials = replicate (length g.program.scalars) 0;
-    shared = record { distributed = start_blocks g class.Distributed; served = start_blocks g class.Served };
-    copies = record { distributed = start_blocks g class.Distributed; served = start_blocks g class.Served };
-    epochs = record { distributed = 1; served = 1 };
-    lines = [];
-    log = [];
-  }
+  own = start_own g;
+  partials = replicate (length g.program.scalars) 0;
+  shared = record { distributed = start_blocks g class.Distributed; served = start_blocks g class.Served };
+  copies = record { distributed = start_blocks g class.Distributed; served = start_blocks g class.Served };
+  epochs = record { distributed = 1; served = 1 };
+  lines = [];
+  log = [];
+}

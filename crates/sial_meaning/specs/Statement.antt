@@ -1,5 +1,5 @@
 -- The meaning of one statement that holds no other: its tests in order, its reads, and its effect.
-use Rattle.std.specs.Prelude.{ℕ, ◌+◌, List, [], ◌∷◌, ◌++◌, map, Bool, true, false, ◌&&◌, not, if◌then◌else◌, Option, Some, None, Ok, Err, unwrap_or, slice_index_or}
+use Rattle.std.specs.Prelude.{ℕ, List, [], ◌∷◌, ◌++◌, map, Bool, true, false, ◌&&◌, not, if◌then◌else◌, Option, Some, None, Ok, Err, unwrap_or, slice_index_or}
 use Rattle.std.specs.List.{list_any}
 use Rattle.sial_syntax.specs.declared.access.Access.{Access}
 use Rattle.sial_syntax.specs.declared.access.Access.TheVariants.{Read}
@@ -8,7 +8,7 @@ use Rattle.sial_syntax.specs.declared.access.Class.TheVariants.{Distributed, Ser
 use Rattle.sial_syntax.specs.declared.array.ArrayKind.{ArrayKind}
 use Rattle.sial_syntax.specs.declared.array.ArrayKind.TheVariants as array
 use Rattle.sial_syntax.specs.declared.operand.BlockRef.{BlockRef}
-use Rattle.sial_syntax.specs.Tree.{Plain, Do, DoIn, Pardo, If, IfElse, Call, Assign, Get, Request, Put, Prepare, Create, Delete, Allocate, Deallocate, Collective, SipBarrier, ServerBarrier, Print, PrintScalar, Integrals}
+use Rattle.sial_syntax.specs.Tree.{Plain, Assign, Get, Request, Put, Prepare, Create, Delete, Collective, SipBarrier, ServerBarrier}
 use Rattle.sial_meaning.specs.declared.trap.Trap.{Trap}
 use Rattle.sial_meaning.specs.declared.trap.TrapKind.{TrapKind}
 use Rattle.sial_meaning.specs.declared.trap.TrapKind.TheVariants.{NotCreated, AlreadyCreated}
@@ -101,11 +101,11 @@ local_done line s (Err kind) = Stopped (trap_at line kind) s
 abbrev pub stored : (line : ℕ) → Named → Access → List ℕ → State → State
 stored line place how words s =
     logged
-      (record s { shared = with_block s.shared place.class place.block (accessed_words how (shared_block s.shared place.class place.block) words) })
-      place.class
-      place.block
-      how
-      line
+    (record s { shared = with_block s.shared place.class place.block (accessed_words how (shared_block s.shared place.class place.block) words) })
+    place.class
+    place.block
+    how
+    line
 
 -- where `put` and `prepare` lead
 abbrev pub put_done : (line : ℕ) → Named → Access → State → Answer (List ℕ) → Outcome
