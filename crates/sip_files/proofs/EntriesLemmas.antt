@@ -1,10 +1,9 @@
 -- Looking up and replacing entries, as the map sees it.
-use Rattle.std.proofs.Common.{◌≡◌, ◌≢◌, ℕ, zero, suc, ◌+◌, ◌<◌, Bool, true, false, cond, List, [], ◌∷◌, ◌++◌, map, length, get_or, set, Option, Some, None, refl, sym, ap, ◌∙◌, subst, arith, position}
+use Rattle.std.proofs.Common.{◌≡◌, ℕ, zero, suc, ◌+◌, ◌<◌, Bool, true, false, cond, List, [], ◌∷◌, ◌++◌, map, length, get_or, set, Some, None, refl, sym, ap, ◌∙◌, arith, position}
 use Rattle.std.specs.FinMap as finite
 use Rattle.std.specs.FinMap.{find, same_map, get-from_entries, get-insert, from_entries_push, slice_cmp-IsAntisymmetric, nat_cmp-IsAntisymmetric}
 use Rattle.std.specs.Ordering.{nat_cmp, eq_by_cmp}
 use Rattle.std.specs.Cmp.Lexicographic.{slice_cmp}
-use Rattle.std.specs.Str.{bytes_eq}
 use Rattle.std.proofs.lemmas.Cmp.{nat_list_cmp_total}
 use Rattle.std.proofs.lemmas.Map.Text.{is_eq-slice_cmp}
 use Rattle.std.proofs.lemmas.Slice.Eq.{bytes_eq-Decides}
@@ -12,7 +11,6 @@ use Rattle.std.proofs.lemmas.List.{map_push}
 use Rattle.std.proofs.lemmas.List.Quantifiers.{position-Some}
 use Rattle.std.proofs.lemmas.Iterator.Adapters.{position_from-zero}
 use Rattle.std.specs.List.{position_from}
-use Rattle.sip_files.specs.Files.{Folder}
 use Rattle.sip_files.specs.Entries.{pair, folder_of, has_name}
 use Rattle.sip_files.specs.declared.folder.Entry.{Entry}
 
@@ -38,7 +36,7 @@ at_place name [] at d within is before = absurd (omega arith)
 at_place name (e ∷ es) zero d within is before = ap (λ b. cond b (Some e.bytes.items) (find (slice_cmp nat_cmp) name (map pair es))) (same_test name e ∙ is)
 at_place name (e ∷ es) (suc at) d within is before =
     ap (λ b. cond b (Some e.bytes.items) (find (slice_cmp nat_cmp) name (map pair es))) (same_test name e ∙ before 0 (omega arith))
-      ∙ at_place name es at d (omega arith) is (λ k h. before (suc k) (omega arith))
+    ∙ at_place name es at d (omega arith) is (λ k h. before (suc k) (omega arith))
 
 -- two tests of one key: the inner one is never reached
 shadowed : {A : Type 0} (b : Bool) (x y z : A) → cond b x z ≡ cond b x (cond b y z)
@@ -65,12 +63,12 @@ find-replaced name bytes q [] at d new within is before named holds = absurd (om
 find-replaced name bytes q (e ∷ es) zero d new within is before named holds =
     let same : name ≡ e.name.items = (bytes_eq-Decides name e.name.items).0 is in
     ap (λ n. cond (eq_by_cmp (slice_cmp nat_cmp) q n) (Some new.bytes.items) (find (slice_cmp nat_cmp) q (map pair es))) named
-      ∙ ap (λ b. cond (eq_by_cmp (slice_cmp nat_cmp) q name) (Some b) (find (slice_cmp nat_cmp) q (map pair es))) holds
-      ∙ shadowed (eq_by_cmp (slice_cmp nat_cmp) q name) (Some bytes) (Some e.bytes.items) _
-      ∙ ap (λ n. cond (eq_by_cmp (slice_cmp nat_cmp) q name) (Some bytes) (cond (eq_by_cmp (slice_cmp nat_cmp) q n) (Some e.bytes.items) (find (slice_cmp nat_cmp) q (map pair es)))) same
+    ∙ ap (λ b. cond (eq_by_cmp (slice_cmp nat_cmp) q name) (Some b) (find (slice_cmp nat_cmp) q (map pair es))) holds
+    ∙ shadowed (eq_by_cmp (slice_cmp nat_cmp) q name) (Some bytes) (Some e.bytes.items) _
+    ∙ ap (λ n. cond (eq_by_cmp (slice_cmp nat_cmp) q name) (Some bytes) (cond (eq_by_cmp (slice_cmp nat_cmp) q n) (Some e.bytes.items) (find (slice_cmp nat_cmp) q (map pair es)))) same
 find-replaced name bytes q (e ∷ es) (suc at) d new within is before named holds =
     ap (cond (eq_by_cmp (slice_cmp nat_cmp) q e.name.items) (Some e.bytes.items)) (find-replaced name bytes q es at d new (omega arith) is (λ k h. before (suc k) (omega arith)) named holds)
-      ∙ swapped (eq_by_cmp (slice_cmp nat_cmp) q e.name.items) (eq_by_cmp (slice_cmp nat_cmp) q name) _ _ _ (apart name q e (before 0 (omega arith)))
+    ∙ swapped (eq_by_cmp (slice_cmp nat_cmp) q e.name.items) (eq_by_cmp (slice_cmp nat_cmp) q name) _ _ _ (apart name q e (before 0 (omega arith)))
 
 -- what a name has, at its place
 pub get-place : (name : List ℕ) (es : List Entry) (at : ℕ) (d : Entry) → position (has_name name) es ≡ Some at → finite.get (folder_of es) name ≡ Some (get_or es at d).bytes.items
@@ -88,15 +86,15 @@ folder_of-set name bytes es at d new is same_name holds =
     let (within, named, before) = position-Some (has_name name) es at d is in
     let new_named : new.name.items ≡ name = same_name ∙ sym ((bytes_eq-Decides name (get_or es at d).name.items).0 named) in
     same_map nat_list_cmp_total (slice_cmp-IsAntisymmetric nat_cmp-IsAntisymmetric) _ _ (λ q.
-      get-from_entries nat_list_cmp_total (map pair (set es at new)) q
-        ∙ find-replaced name bytes q es at d new within named before new_named holds
-        ∙ ap (cond (eq_by_cmp (slice_cmp nat_cmp) q name) (Some bytes)) (sym (get-from_entries nat_list_cmp_total (map pair es) q))
-        ∙ sym (get-insert nat_list_cmp_total (folder_of es) name bytes q))
+    get-from_entries nat_list_cmp_total (map pair (set es at new)) q
+    ∙ find-replaced name bytes q es at d new within named before new_named holds
+    ∙ ap (cond (eq_by_cmp (slice_cmp nat_cmp) q name) (Some bytes)) (sym (get-from_entries nat_list_cmp_total (map pair es) q))
+    ∙ sym (get-insert nat_list_cmp_total (folder_of es) name bytes q))
 
 -- an entry of a new name at the end is to insert into the map
 pub folder_of-push : (name bytes : List ℕ) (es : List Entry) (new : Entry) → position (has_name name) es ≡ None → new.name.items ≡ name → new.bytes.items ≡ bytes → folder_of (es ++ new ∷ []) ≡ finite.insert (folder_of es) name bytes
 folder_of-push name bytes es new is named holds =
     let one : pair new ≡ (name, bytes) = λ i. (named i, holds i) in
     ap finite.from_entries (map_push pair es new)
-      ∙ ap (λ e. finite.from_entries (map pair es ++ e ∷ [])) one
-      ∙ from_entries_push nat_list_cmp_total (slice_cmp-IsAntisymmetric nat_cmp-IsAntisymmetric) (map pair es) name bytes (absent name es is)
+    ∙ ap (λ e. finite.from_entries (map pair es ++ e ∷ [])) one
+    ∙ from_entries_push nat_list_cmp_total (slice_cmp-IsAntisymmetric nat_cmp-IsAntisymmetric) (map pair es) name bytes (absent name es is)

@@ -1,5 +1,5 @@
 -- Small facts on what loads answer.
-use Rattle.std.proofs.Common.{◌≡◌, ℕ, List, [], Option, Some, None, sym, ◌∙◌, refl, ap, ◌++◌}
+use Rattle.std.proofs.Common.{◌≡◌, ℕ, List, [], Option, Some, None, sym, ap, ◌++◌}
 use Rattle.sip_files.specs.Files.{IsPartOf}
 
 -- nothing is a first part of anything

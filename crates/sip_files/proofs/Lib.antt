@@ -1,2 +1,3 @@
 pub mod EntriesLemmas
 pub mod FilesLemmas
+pub mod SinkLemmas

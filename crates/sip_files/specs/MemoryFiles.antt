@@ -25,7 +25,7 @@ abbrev pub no_files : FilesInMemory
 no_files = record {
   files = map.empty;
   plans = record { load = unplanned; clear = unplanned; append = unplanned; read_at = unplanned; write_at = unplanned };
-  refused = 0
+  refused = 0;
 }
 
 -- the plan of one kind

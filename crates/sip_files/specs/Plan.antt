@@ -1,5 +1,5 @@
 -- Planned faults of one kind of call: which calls are to fail, counted from 1, and how many came.
-use Rattle.std.specs.Prelude.{◌≡◌, ℕ, ◌+◌, ◌-◌, ◌^◌, ◌==◌, Bool, min, cond, List, [], ◌∷◌, ◌++◌}
+use Rattle.std.specs.Prelude.{ℕ, ◌+◌, ◌-◌, ◌^◌, ◌==◌, Bool, min, cond, List, [], ◌∷◌, ◌++◌}
 use Rattle.std.specs.List.{list_any}
 
 -- the numbers of the calls that are to fail, how many calls came, and how many of them failed
@@ -25,7 +25,7 @@ abbrev pub after_call : Planned → Planned
 after_call plan = record {
   numbers = plan.numbers;
   calls = one_more plan.calls;
-  faults = cond (is_next plan) (one_more plan.faults) plan.faults
+  faults = cond (is_next plan) (one_more plan.faults) plan.faults;
 }
 
 -- after a call that failed for another reason

@@ -64,7 +64,7 @@ impl<'a, R: std::rt::Files> Files for HostFiles<'a, R> {
     }
 }
 
-// Reads a file in pieces, up to its end or past the limit.
+// Reads a file of the host.
 fn read_file<R: std::rt::Files>(
     runtime: &R,
     name: &str,
@@ -76,11 +76,21 @@ fn read_file<R: std::rt::Files>(
     ensures long { IsErrOf result LoadFault.TooLong → most < vec_len into.new }
     ensures missing { IsErrOf result LoadFault.Missing → ⊥ }
 {
-    let Ok(mut file) = fs::open(runtime, name) else {
-        return Err(LoadFault::Failed);
-    };
+    match fs::open(runtime, name) {
+        Ok(mut file) => read_all(&mut file, into, most),
+        Err(_) => Err(LoadFault::Failed),
+    }
+}
+
+// Reads in pieces, up to the end or past the limit.
+pub fn read_all(file: &mut impl Read, into: &mut Vec<u8>, most: u64) -> Result<(), LoadFault>
+    requires { into.old.items ≡ [] }
+    ensures within { OnOk result (vec_len into.new ≤ most) }
+    ensures long { IsErrOf result LoadFault.TooLong → most < vec_len into.new }
+    ensures missing { IsErrOf result LoadFault.Missing → ⊥ }
+{
     for _ in 0..u64::MAX {
-        if read_piece(&mut file, into)? {
+        if read_piece(file, into)? {
             return Ok(());
         }
         if into.len() as u64 > most {

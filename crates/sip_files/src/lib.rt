@@ -23,3 +23,6 @@ pub use memory_files::MemoryFiles;
 pub use memory_sink::MemorySink;
 pub use sink::Sink;
 pub use stream::Stream;
+
+#[cfg(test)]
+mod tests;

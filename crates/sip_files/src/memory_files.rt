@@ -28,7 +28,6 @@ pub struct MemoryFiles {
 
 impl Model for MemoryFiles {
     ghost use Rattle.sip_files.specs.MemoryFiles.{FilesInMemory};
-
     ghost use Rattle.std.specs.Coded.{codes};
     ghost use Rattle.sip_files.specs.Files.{folder_code};
 

@@ -9,9 +9,9 @@ pub returns-in-Some : goal.returns-in-Some
 returns-in-Some c =
     let place : position (has_name c.args.name.now) c.self.inside.entries.items ≡ Some c.in-Some.at = cc in
     ap Some c.as_slice-in-Some.ensures.value
-      ∙ ap (λ (entry : Entry). Some entry.bytes.items) c.index.ensures
-      ∙ sym (get-place c.args.name.now c.self.inside.entries.items c.in-Some.at c.index.result.now place)
-      ∙ ap (λ files. map.get files c.args.name.now) c.self.view_is
+    ∙ ap (λ (entry : Entry). Some entry.bytes.items) c.index.ensures
+    ∙ sym (get-place c.args.name.now c.self.inside.entries.items c.in-Some.at c.index.result.now place)
+    ∙ ap (λ files. map.get files c.args.name.now) c.self.view_is
 
 pub returns-in-None : goal.returns-in-None
 returns-in-None c =

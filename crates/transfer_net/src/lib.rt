@@ -1,0 +1,9 @@
+//! The messages in flight.
+#![tactic(auto)]
+
+mod net;
+
+pub use net::Net;
+
+#[cfg(test)]
+mod tests;
