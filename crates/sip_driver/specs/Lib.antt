@@ -1,1 +1,5 @@
 pub mod First
+pub mod Top
+pub mod Lines
+pub mod Built
+pub mod Profile

@@ -1,0 +1,70 @@
+-- The top call: what its words ask for, and what each of its answers says of the files and the output.
+use Rattle.std.specs.Prelude.{◌≡◌, ◌≢◌, ℕ, ◌<◌, ◌≤◌, ◌↔◌, ◌⊎◌, List, [], ◌∷◌, ◌++◌, length, Option, Some, None, String, string_bytes, codes, Bool, true, false, if◌then◌else◌}
+use Rattle.std.specs.FinMap as map
+use Rattle.std.specs.Str.{bytes_eq}
+use Rattle.std.specs.declared.alloc.Global.{Global}
+use Rattle.sip_files.specs.Files.{Folder, Rose}
+use Rattle.sip_files.specs.Sink.{Gains, GainsPart}
+use Rattle.sip_driver.specs.First.{Path, printed_text}
+
+-- the files that the words name
+pub record Names : Type 0 where
+  pub program : List ℕ
+  pub input : List ℕ
+
+-- the names behind the command, where it is `run`
+abbrev pub names_if : Bool → (program input : List ℕ) → Option Names
+names_if true program input = Some (record { program = program; input = input })
+names_if false program input = None
+
+-- four words with `run` second name two files
+abbrev pub asked : List (String Global) → Option Names
+asked (name ∷ command ∷ program ∷ input ∷ []) = names_if (bytes_eq (string_bytes command) (codes "run")) (string_bytes program) (string_bytes input)
+asked _ = None
+
+-- the limit of a program, which is that of a table file
+abbrev pub most_program : ℕ
+most_program = 16777216
+
+-- the limit of an input
+abbrev pub most_input : ℕ
+most_input = 1048576
+
+-- what files count: failed loads, and loads that read more than their limit
+pub record Loads : Type 0 where
+  pub failed : ℕ
+  pub overlong : ℕ
+
+-- a file is longer than its limit, as far as the files tell
+abbrev pub IsLong : Option (List ℕ) → (most : ℕ) → Type 0
+IsLong None most = ⊥
+IsLong (Some held) most = most < length held
+
+-- a file is missing
+abbrev pub IsAbsent : Option (List ℕ) → Type 0
+IsAbsent held = held ≡ None
+
+-- a told file can't be read: it is missing, or longer than its limit
+abbrev pub IsUnreadable : Option Folder → (name : List ℕ) → (most : ℕ) → Type 0
+IsUnreadable None name most = ⊥
+IsUnreadable (Some files) name most = IsAbsent (map.get files name) ⊎ IsLong (map.get files name) most
+
+-- why a file wasn't read: it can't be; or, untold, more than its limit was read; or a load failed
+abbrev pub IsUnread : Option Folder → (old new : Loads) → (name : List ℕ) → (most : ℕ) → Type 0
+IsUnread None old new name most = Rose old.failed new.failed ⊎ Rose old.overlong new.overlong
+IsUnread (Some files) old new name most = Rose old.failed new.failed ⊎ IsUnreadable (Some files) name most
+
+-- a fact about the two texts, where the files tell them
+abbrev pub ForTexts : Option Folder → Names → (List ℕ → List ℕ → Type 0) → Type 0
+ForTexts None names fact = Unit {0}
+ForTexts (Some files) names fact =
+    (program : List ℕ) × (input : List ℕ) × (map.get files names.program ≡ Some program) × (map.get files names.input ≡ Some input) × fact program input
+
+-- a fact about the files that the words name, which holds of no words that name none
+abbrev pub ForNames : Option Names → (Names → Type 0) → Type 0
+ForNames None fact = ⊥
+ForNames (Some names) fact = fact names
+
+-- the line on a file that wasn't read
+abbrev pub read_line : (name : List ℕ) → List ℕ
+read_line name = codes "sip: read " ++ (name ++ (10 ∷ []))

@@ -1,0 +1,18 @@
+//! What a run of the first profile came to.
+
+/// How a run ended, before its line is told and its status given.
+#[derive(Clone, Copy, Debug, PartialEq, Eq)]
+pub enum Answer {
+    /// The program ran to its end.
+    Done,
+    /// The program's file wasn't read.
+    NoProgram,
+    /// The input's file wasn't read.
+    NoInput,
+    /// The texts are none of the first profile.
+    NotFirst,
+    /// The output took not all.
+    NotWritten,
+    /// No memory was found.
+    OutOfMemory,
+}

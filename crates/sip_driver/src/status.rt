@@ -1,0 +1,20 @@
+//! The statuses that the program ends with, each with its one line.
+
+/// The exit status of a call.
+#[derive(Clone, Copy, Debug, PartialEq, Eq)]
+pub struct Status(pub u8);
+
+impl Status {
+    /// Everything was done.
+    pub const DONE: Status = Status(0);
+    /// The words aren't accepted.
+    pub const USAGE: Status = Status(1);
+    /// A file couldn't be read.
+    pub const READ_FAULT: Status = Status(2);
+    /// The texts are no program.
+    pub const SYNTAX: Status = Status(3);
+    /// The output couldn't be written.
+    pub const WRITE_FAULT: Status = Status(10);
+    /// No memory was found.
+    pub const OUT_OF_MEMORY: Status = Status(13);
+}
