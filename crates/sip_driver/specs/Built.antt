@@ -101,8 +101,8 @@ is_over _ index = false
 abbrev pub block_named : Building → (array index : List ℕ) → Option BlockRef
 block_named b array index =
     option_and_then
-      (λ i. option_and_then (λ a. only_if (is_looped b.loop i && is_over (dims_of b a) i) (record { array = a; at = i ∷ [] })) (array_named b array))
-      (index_named b index)
+    (λ i. option_and_then (λ a. only_if (is_looped b.loop i && is_over (dims_of b a) i) (record { array = a; at = i ∷ [] })) (array_named b array))
+    (index_named b index)
 
 -- the loop closed by its index's name
 abbrev pub closed : Building → Option Open → Option ℕ → Option Building
@@ -116,14 +116,14 @@ abbrev pub one_more : Building → Line → Option Building
 one_more b (Head name) = None
 one_more b (Index name lo hi) =
     only_if
-      (may_declare b name (length b.indices))
-      (next_line (record b { indices = b.indices ++ (record { name = name; line = b.line; range = Segments Ao (Number (value_of lo)) (Number (value_of hi)) }) ∷ [] }))
+    (may_declare b name (length b.indices))
+    (next_line (record b { indices = b.indices ++ (record { name = name; line = b.line; range = Segments Ao (Number (value_of lo)) (Number (value_of hi)) }) ∷ [] }))
 one_more b (Array name index) =
     option_and_then
-      (λ i. only_if
-        (may_declare b name (length b.arrays))
-        (next_line (record b { arrays = b.arrays ++ (record { name = name; line = b.line; kind = Static; dims = i ∷ [] }) ∷ [] })))
-      (index_named b index)
+    (λ i. only_if
+    (may_declare b name (length b.arrays))
+    (next_line (record b { arrays = b.arrays ++ (record { name = name; line = b.line; kind = Static; dims = i ∷ [] }) ∷ [] })))
+    (index_named b index)
 one_more b (Scalar name) = only_if (may_declare b name (length b.scalars)) (next_line (record b { scalars = b.scalars ++ name ∷ [] }))
 one_more b (Loop index) =
     option_and_then (λ i. only_if (is_none b.loop) (next_line (record b { loop = Some (record { line = b.line; index = i; body = [] }) }))) (index_named b index)
@@ -132,18 +132,18 @@ one_more b (Fill array index number) =
     option_and_then (λ t. Some (stated b (Assign (target.Block t) Set (One (operand.Number (value_of number)))))) (block_named b array index)
 one_more b (AddBlock array index other) =
     option_and_then
-      (λ t. option_and_then (λ o. Some (stated b (Assign (target.Block t) Add (One (operand.Block o))))) (block_named b other index))
-      (block_named b array index)
+    (λ t. option_and_then (λ o. Some (stated b (Assign (target.Block t) Add (One (operand.Block o))))) (block_named b other index))
+    (block_named b array index)
 one_more b (SetScalar scalar number) =
     option_and_then (λ s. Some (stated b (Assign (target.Scalar s) Set (One (operand.Number (value_of number)))))) (scalar_named b scalar)
 one_more b (AddNumber scalar number) =
     option_and_then (λ s. Some (stated b (Assign (target.Scalar s) Add (One (operand.Number (value_of number)))))) (scalar_named b scalar)
 one_more b (Contract scalar left right index) =
     option_and_then
-      (λ s. option_and_then
-        (λ l. option_and_then (λ r. Some (stated b (Assign (target.Scalar s) Set (Two (operand.Block l) Times (operand.Block r))))) (block_named b right index))
-        (block_named b left index))
-      (scalar_named b scalar)
+    (λ s. option_and_then
+    (λ l. option_and_then (λ r. Some (stated b (Assign (target.Scalar s) Set (Two (operand.Block l) Times (operand.Block r))))) (block_named b right index))
+    (block_named b left index))
+    (scalar_named b scalar)
 one_more b (Print scalar) = option_and_then (λ s. Some (stated b (PrintScalar s))) (scalar_named b scalar)
 one_more b (Tail name) = None
 

@@ -54,23 +54,23 @@ span_of_range (range.Sub super) = Segments Ao 1 0
 -- the spaces of a program of the first profile
 abbrev pub spaces_of : Path → Spaces
 spaces_of path = record {
-    ao = record { segments = path.lengths; piece = 0 };
-    mo = no_segments;
-    moa = no_segments;
-    mob = no_segments;
-    spans = map (λ (i : IndexDecl). span_of_range i.range) path.program.indices;
-  }
+  ao = record { segments = path.lengths; piece = 0 };
+  mo = no_segments;
+  moa = no_segments;
+  mob = no_segments;
+  spans = map (λ (i : IndexDecl). span_of_range i.range) path.program.indices;
+}
 
 -- its setting: all scalars are replicated and begin as 0, and no block is given
 abbrev pub setting_of : Path → Setting
 setting_of path = record {
-    program = path.program;
-    scalars = replicate (length path.program.scalars) Replicated;
-    sides = replicate (length path.program.arrays) Unused;
-    spaces = spaces_of path;
-    numbers = replicate (length path.program.scalars) 0;
-    blocks = [];
-  }
+  program = path.program;
+  scalars = replicate (length path.program.scalars) Replicated;
+  sides = replicate (length path.program.arrays) Unused;
+  spaces = spaces_of path;
+  numbers = replicate (length path.program.scalars) 0;
+  blocks = [];
+}
 
 -- the lines that an outcome printed
 abbrev pub lines_of : Outcome → List (List ℕ)

@@ -1,11 +1,12 @@
 -- The top call: what its words ask for, and what each of its answers says of the files and the output.
-use Rattle.std.specs.Prelude.{◌≡◌, ◌≢◌, ℕ, ◌<◌, ◌≤◌, ◌↔◌, ◌⊎◌, List, [], ◌∷◌, ◌++◌, length, Option, Some, None, String, string_bytes, codes, Bool, true, false, if◌then◌else◌}
+use Rattle.std.specs.Prelude.{◌≡◌, ◌≢◌, ℕ, ◌<◌, ◌≤◌, ◌↔◌, ◌⊎◌, List, [], ◌∷◌, ◌++◌, length, Option, Some, None, String, string_bytes, codes, Bool, true, false, ◌==◌, if◌then◌else◌}
 use Rattle.std.specs.FinMap as map
 use Rattle.std.specs.Str.{bytes_eq}
 use Rattle.std.specs.declared.alloc.Global.{Global}
 use Rattle.sip_files.specs.Files.{Folder, Rose}
 use Rattle.sip_files.specs.Sink.{Gains, GainsPart}
 use Rattle.sip_driver.specs.First.{Path, printed_text}
+use Rattle.sip_driver.specs.Profile.{IsFirst}
 
 -- the files that the words name
 pub record Names : Type 0 where
@@ -68,3 +69,34 @@ ForNames (Some names) fact = fact names
 -- the line on a file that wasn't read
 abbrev pub read_line : (name : List ℕ) → List ℕ
 read_line name = codes "sip: read " ++ (name ++ (10 ∷ []))
+
+-- the output gained the printed lines of the program that the texts are
+abbrev pub Prints : (old new : Option (List ℕ)) → (program input : List ℕ) → Type 0
+Prints old new program input = (path : Path) × IsFirst program input path × Gains old new (printed_text path)
+
+-- the output gained a first part of the printed lines of the program that the texts are
+abbrev pub PrintsPart : (old new : Option (List ℕ)) → (program input : List ℕ) → Type 0
+PrintsPart old new program input = (path : Path) × IsFirst program input path × GainsPart old new (printed_text path)
+
+-- the texts are none of the first profile
+abbrev pub IsNotFirst : (program input : List ℕ) → Type 0
+IsNotFirst program input = (path : Path) → IsFirst program input path → ⊥
+
+-- the output is as it was, or gained a first part of the printed lines
+abbrev pub PrintsSome : (old new : Option (List ℕ)) → (program input : List ℕ) → Type 0
+PrintsSome old new program input = (new ≡ old) ⊎ PrintsPart old new program input
+
+-- a line went out whole; or a write failed, was counted, and a first part of it went out
+abbrev pub Says : (old new : Option (List ℕ)) → (before now : ℕ) → (line : List ℕ) → Type 0
+Says old new before now line = Gains old new line ⊎ (Rose before now × GainsPart old new line)
+
+-- the line of each status but that on a file
+abbrev pub line_of : (status : ℕ) → List ℕ
+line_of status =
+    if status == 1
+    then codes "sip: usage\n"
+    else if status == 3 then codes "sip: syntax line 0: FirstPath\n" else if status == 10 then codes "sip: write output\n" else if status == 13 then codes "sip: memory\n" else []
+
+-- a status that the call answers
+abbrev pub IsAnswer : (status : ℕ) → Type 0
+IsAnswer status = (status ≡ 0) ⊎ ((status ≡ 1) ⊎ ((status ≡ 2) ⊎ ((status ≡ 3) ⊎ ((status ≡ 10) ⊎ (status ≡ 13)))))

@@ -3,7 +3,14 @@
 
 mod answer;
 mod first;
+mod perform;
+mod reader;
+mod run;
+mod say;
 mod status;
+mod top;
+mod words;
 
 pub use first::First;
 pub use status::Status;
+pub use top::sip;

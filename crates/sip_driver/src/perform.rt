@@ -1,0 +1,89 @@
+//! From the names of two files to a run of them.
+
+ghost use Rattle.std.specs.Prelude.{◌≡◌, ◌≢◌, ◌≤◌, ◌⊎◌};
+ghost use Rattle.sip_files.specs.Files.{Rose, CountsOnly};
+ghost use Rattle.sip_files.specs.declared.call.Call.TheVariants.{Load};
+ghost use Rattle.sip_driver.specs.Top.{Names, Loads, ForTexts, IsUnread, IsUnreadable, Prints, PrintsPart, PrintsSome, IsNotFirst, most_program, most_input};
+
+use crate::answer::Answer;
+use crate::reader::read_first;
+use crate::run::{RunFault, run};
+use sip_files::{Files, LoadFault, Sink};
+use std::alloc::Global;
+
+const MOST_PROGRAM: u64 = 16_777_216;
+
+const MOST_INPUT: u64 = 1_048_576;
+
+/// Loads two files and runs them, if their texts are of the first profile.
+#[tactic(auto, using(crate::proofs::TopLemmas::for_texts, crate::proofs::TopLemmas::readable))]
+pub fn perform<F: Files, K: Sink>(
+    alloc: Global,
+    program: &str,
+    input: &str,
+    files: &mut F,
+    out: &mut K,
+) -> Answer
+    ensures done { result ≡ Answer.Done → ForTexts (F.told files.old) (record { program = program.now; input = input.now }) (Prints (K.written out.old) (K.written out.new)) }
+    ensures not_first { result ≡ Answer.NotFirst → ForTexts (F.told files.old) (record { program = program.now; input = input.now }) IsNotFirst }
+    ensures not_written { result ≡ Answer.NotWritten → ForTexts (F.told files.old) (record { program = program.now; input = input.now }) (PrintsPart (K.written out.old) (K.written out.new)) }
+    ensures cause { result ≡ Answer.NotWritten → Rose (K.faults out.old) (K.faults out.new) }
+
+    // A file is not read only for a cause, and a told one that can't be read is not.
+    ensures no_program { result ≡ Answer.NoProgram → IsUnread (F.told files.old) (record { failed = F.faults files.old Load; overlong = F.overlong files.old }) (record { failed = F.faults files.new Load; overlong = F.overlong files.new }) program.now most_program }
+    ensures no_input { result ≡ Answer.NoInput → IsUnread (F.told files.old) (record { failed = F.faults files.old Load; overlong = F.overlong files.old }) (record { failed = F.faults files.new Load; overlong = F.overlong files.new }) input.now most_input }
+    ensures program_unreadable { IsUnreadable (F.told files.old) program.now most_program → (result ≡ Answer.NoProgram) ⊎ (result ≡ Answer.OutOfMemory) }
+    ensures input_unreadable { IsUnreadable (F.told files.old) input.now most_input → (result ≡ Answer.NoProgram) ⊎ ((result ≡ Answer.NoInput) ⊎ (result ≡ Answer.OutOfMemory)) }
+
+    // The output is touched by a run alone.
+    ensures no_program_kept { result ≡ Answer.NoProgram → K.written out.new ≡ K.written out.old }
+    ensures no_input_kept { result ≡ Answer.NoInput → K.written out.new ≡ K.written out.old }
+    ensures not_first_kept { result ≡ Answer.NotFirst → K.written out.new ≡ K.written out.old }
+    ensures memory { result ≡ Answer.OutOfMemory → (K.written out.new ≡ K.written out.old) ⊎ ForTexts (F.told files.old) (record { program = program.now; input = input.now }) (PrintsPart (K.written out.old) (K.written out.new)) }
+
+    ensures told { F.told files.new ≡ F.told files.old }
+    ensures counts { CountsOnly Load (F.faults files.old) (F.faults files.new) }
+    ensures loans { F.loans files.new ≡ F.loans files.old }
+    ensures never_falls { K.faults out.old ≤ K.faults out.new }
+    ensures kept { K.kept out.new ≡ K.kept out.old }
+{
+    let mut program_text = Vec::new(alloc);
+    match files.load(program, &mut program_text, MOST_PROGRAM) {
+        Ok(()) => {}
+        Err(LoadFault::OutOfMemory) => return Answer::OutOfMemory,
+        Err(_) => return Answer::NoProgram,
+    }
+    let mut input_text = Vec::new(alloc);
+    match files.load(input, &mut input_text, MOST_INPUT) {
+        Ok(()) => {}
+        Err(LoadFault::OutOfMemory) => return Answer::OutOfMemory,
+        Err(_) => return Answer::NoInput,
+    }
+    run_texts(alloc, program_text.as_slice(), input_text.as_slice(), out)
+}
+
+// Runs two texts, if they are of the first profile.
+fn run_texts<K: Sink>(alloc: Global, program: &[u8], input: &[u8], out: &mut K) -> Answer
+    ensures done { result ≡ Answer.Done → Prints (K.written out.old) (K.written out.new) program.now input.now }
+    ensures not_first { result ≡ Answer.NotFirst → IsNotFirst program.now input.now }
+    ensures not_written { result ≡ Answer.NotWritten → PrintsPart (K.written out.old) (K.written out.new) program.now input.now }
+    ensures cause { result ≡ Answer.NotWritten → Rose (K.faults out.old) (K.faults out.new) }
+    ensures not_first_kept { result ≡ Answer.NotFirst → K.written out.new ≡ K.written out.old }
+    ensures memory { result ≡ Answer.OutOfMemory → PrintsSome (K.written out.old) (K.written out.new) program.now input.now }
+    ensures program_read { result ≢ Answer.NoProgram }
+    ensures input_read { result ≢ Answer.NoInput }
+
+    ensures never_falls { K.faults out.old ≤ K.faults out.new }
+    ensures kept { K.kept out.new ≡ K.kept out.old }
+{
+    let first = match read_first(alloc, program, input) {
+        Err(_) => return Answer::OutOfMemory,
+        Ok(None) => return Answer::NotFirst,
+        Ok(Some(first)) => first,
+    };
+    match run(alloc, &first, out) {
+        Ok(()) => Answer::Done,
+        Err(RunFault::NotWritten) => Answer::NotWritten,
+        Err(RunFault::OutOfMemory) => Answer::OutOfMemory,
+    }
+}

