@@ -3,3 +3,4 @@ pub mod Top
 pub mod Lines
 pub mod Built
 pub mod Profile
+pub mod Running
