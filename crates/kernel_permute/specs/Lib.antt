@@ -1,1 +1,2 @@
 pub mod How
+pub mod Gathering
