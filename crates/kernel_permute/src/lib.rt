@@ -1,8 +1,13 @@
 //! Permuted copies, slices and insertions of blocks, for every rank from 1 to 6.
 #![tactic(auto)]
 
+mod axis;
 mod gathering;
 mod how;
+mod permuting;
+mod strided;
+mod strides;
 
 pub use gathering::gather;
 pub use how::How;
+pub use permuting::permute;

@@ -1,0 +1,6 @@
+pub mod ProductLemmas
+pub mod PositionsLemmas
+pub mod StridedLemmas
+pub mod OrderLemmas
+pub mod PermutingLemmas
+pub mod SlicingLemmas
