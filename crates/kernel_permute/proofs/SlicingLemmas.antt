@@ -93,3 +93,22 @@ sliced_is how dims at size from old base axes is begins made =
 pub sliced_none : (how : How) (dims at size from old : List ℕ) → length old ≡ 0 → old ≡ sliced how dims at size from old
 sliced_none how dims at size from [] none = sym (zipped-nil (λ y x. combined how x (get_or from (place dims (shifted at y)) 0)) (positions size))
 sliced_none how dims at size from (x ∷ xs) none = absurd (omega arith)
+
+-- one more dimension leads no further than the part's place
+pub base_within : (ss at : List ℕ) (k base : ℕ) → k < length ss → k < length at → base + along (drop k ss) (drop k at) ≡ along ss at → base + get_or at k 0 * get_or ss k 0 ≤ along ss at
+base_within ss at k base in_ss in_at before =
+    let more : along (drop k ss) (drop k at) ≡ get_or at k 0 * get_or ss k 0 + along (drop (k + 1) ss) (drop (k + 1) at) = rw (drop_more ss k 0 in_ss, drop_more at k 0 in_at) refl in
+    omega arith
+
+-- the part's place, once the loop is through
+pub base_done : (ss at : List ℕ) (k base : ℕ) → length ss ≤ k → base + along (drop k ss) (drop k at) ≡ along ss at → base ≡ along ss at
+base_done ss at k base over before =
+    let none : along (drop k ss) (drop k at) ≡ 0 = ap (λ r. along r (drop k at)) (drop_all k ss over) in
+    omega arith
+
+-- the axes, once the loop is through
+pub axes_with_done : (axes : List Axis) (ns ss : List ℕ) (k : ℕ) → length ns ≤ k → length axes ≡ length ns → take k axes ++ axes_with (drop k ns) (drop k ss) ≡ axes_with ns ss → axes ≡ axes_with ns ss
+axes_with_done axes ns ss k over long before =
+    let whole : take k axes ≡ axes = take_all k axes (omega arith) in
+    let none : axes_with (drop k ns) (drop k ss) ≡ [] = ap (λ r. axes_with r (drop k ss)) (drop_all k ns over) in
+    sym (append-nil axes) ∙ (rw (whole, none) at before)

@@ -5,9 +5,11 @@ mod axis;
 mod gathering;
 mod how;
 mod permuting;
+mod slicing;
 mod strided;
 mod strides;
 
 pub use gathering::gather;
 pub use how::How;
 pub use permuting::permute;
+pub use slicing::slice_out;
