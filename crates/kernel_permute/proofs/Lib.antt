@@ -4,3 +4,4 @@ pub mod StridedLemmas
 pub mod OrderLemmas
 pub mod PermutingLemmas
 pub mod SlicingLemmas
+pub mod InsertingLemmas

@@ -1,7 +1,7 @@
 -- Lemmas on positions, which come row by row.
 use Rattle.std.proofs.Common.{◌≡◌, ℕ, zero, suc, ◌+◌, ◌-◌, ◌*◌, ◌<◌, ◌≤◌, List, [], ◌∷◌, ◌++◌, length, get_or, take, drop, set, map, sym, ◌∙◌, ap, refl, add-one, add_assoc, append_assoc, append-nil, arith, length-append, length-take, length-drop}
 use Rattle.std.specs.List.{AllByRecursion, flat_map, range_with_len}
-use Rattle.std.proofs.lemmas.List.{length-map, take_more_set, drop-set-lt, drop-drop, drop_more, take_all, take-append-drop, length-take-le}
+use Rattle.std.proofs.lemmas.List.{nil_from_length, length-map, take_more_set, drop-set-lt, drop-drop, drop_more, take_all, take-append-drop, length-take-le}
 use Rattle.kernel_permute.specs.Positions.{IsPosition, product, positions, zipped, each_number}
 
 -- the positions of n rows, from one on
@@ -98,3 +98,47 @@ zipped-same_where P f g same (p ∷ ps) (x ∷ xs) these = ap (λ r. f p x ∷ r
 -- two functions that agree at the positions of a block make the same block
 pub each_number-same : (f g : List ℕ → ℕ → ℕ) (ds xs : List ℕ) → ((p : List ℕ) (x : ℕ) → IsPosition ds p → f p x ≡ g p x) → each_number f ds xs ≡ each_number g ds xs
 each_number-same f g ds xs same = zipped-same_where (IsPosition ds) f g same (positions ds) xs (all-positions ds)
+
+-- a block whose numbers all stay
+pub each_number-kept : (f : List ℕ → ℕ → ℕ) (ds xs : List ℕ) → ((p : List ℕ) (x : ℕ) → f p x ≡ x) → length xs ≡ product ds → each_number f ds xs ≡ xs
+each_number-kept f ds xs kept long = zipped-kept f (positions ds) xs kept (length-positions ds ∙ sym long)
+  where
+    zipped-kept : (f : List ℕ → ℕ → ℕ) (ps : List (List ℕ)) (xs : List ℕ) → ((p : List ℕ) (x : ℕ) → f p x ≡ x) → length ps ≡ length xs → zipped f ps xs ≡ xs
+    zipped-kept f [] [] kept long = refl
+    zipped-kept f [] (x ∷ xs) kept long = absurd (omega arith)
+    zipped-kept f (p ∷ ps) [] kept long = absurd (omega arith)
+    zipped-kept f (p ∷ ps) (x ∷ xs) kept long = ap (λ r. f p x ∷ r) (zipped-kept f ps xs kept (omega arith)) ∙ ap (λ v. v ∷ xs) (kept p x)
+
+rows_from-append : (ds : List ℕ) (start n m : ℕ) → rows_from ds start (n + m) ≡ rows_from ds start n ++ rows_from ds (start + n) m
+rows_from-append ds start zero m =
+    let none : zero + m ≡ m = omega arith in
+    let same : start + zero ≡ start = omega arith in
+    rw (none, same) refl
+rows_from-append ds start (suc n) m =
+    let one : suc n + m ≡ suc (n + m) = omega arith in
+    let next : start + suc n ≡ start + 1 + n = omega arith in
+    rw (one, next, rows_from-append ds (start + 1) n m) (sym (append_assoc (map (λ ys. start ∷ ys) (positions ds)) (rows_from ds (start + 1) n) (rows_from ds (start + 1 + n) m)))
+
+-- the first n rows, and the others
+pub rows-append : (f : List ℕ → ℕ → ℕ) (ds : List ℕ) (w start n m : ℕ) (xs : List ℕ) → product ds ≡ w → rows f ds start (n + m) xs ≡ rows f ds start n (take (n * w) xs) ++ rows f ds (start + n) m (drop (n * w) xs)
+rows-append f ds w start n m xs e =
+    let long : length (rows_from ds start n) ≡ n * w = length-rows_from ds w start n (length-positions ds ∙ e) in
+    ap (λ ps. zipped f ps xs) (rows_from-append ds start n m) ∙ zipped-append f (rows_from ds start n) (rows_from ds (start + n) m) xs ∙ ap (λ k. zipped f (rows_from ds start n) (take k xs) ++ zipped f (rows_from ds (start + n) m) (drop k xs)) long
+
+-- rows whose numbers all stay
+pub rows-kept : (f : List ℕ → ℕ → ℕ) (ds : List ℕ) (w start n : ℕ) (xs : List ℕ) → product ds ≡ w → ((i : ℕ) (ys : List ℕ) (x : ℕ) → start ≤ i → i < start + n → f (i ∷ ys) x ≡ x) → length xs ≡ n * w → rows f ds start n xs ≡ xs
+rows-kept f ds w start zero xs e kept long = sym (nil_from_length xs (omega arith))
+rows-kept f ds w start (suc n) xs e kept long =
+    let within : w ≤ length xs = omega arith in
+    let here : each_number (λ ys. f (start ∷ ys)) ds (take w xs) ≡ take w xs = each_number-kept (λ ys. f (start ∷ ys)) ds (take w xs) (λ ys x. kept start ys x (omega arith) (omega arith)) (length-take-le w xs within ∙ sym e) in
+    let rest : rows f ds (start + 1) n (drop w xs) ≡ drop w xs = rows-kept f ds w (start + 1) n (drop w xs) e (λ i ys x low high. kept i ys x (omega arith) (omega arith)) (length-drop w xs ∙ omega arith) in
+    rows-suc f ds w start n xs e ∙ rw (here, rest) (take-append-drop w xs)
+
+-- the same rows, numbered from another one
+pub rows-shifted : (f g : List ℕ → ℕ → ℕ) (ds : List ℕ) (w a start n z : ℕ) (xs : List ℕ) → product ds ≡ w → start + n ≤ z → ((i : ℕ) (ys : List ℕ) (x : ℕ) → i < z → f ((a + i) ∷ ys) x ≡ g (i ∷ ys) x) → rows f ds (a + start) n xs ≡ rows g ds start n xs
+rows-shifted f g ds w a start zero z xs e within same = refl
+rows-shifted f g ds w a start (suc n) z xs e within same =
+    let here : each_number (λ ys. f ((a + start) ∷ ys)) ds (take w xs) ≡ each_number (λ ys. g (start ∷ ys)) ds (take w xs) = zipped-same (λ ys. f ((a + start) ∷ ys)) (λ ys. g (start ∷ ys)) (λ ys x. same start ys x (omega arith)) (positions ds) (take w xs) in
+    let next : a + start + 1 ≡ a + (start + 1) = omega arith in
+    let rest : rows f ds (a + start + 1) n (drop w xs) ≡ rows g ds (start + 1) n (drop w xs) = ap (λ s. rows f ds s n (drop w xs)) next ∙ rows-shifted f g ds w a (start + 1) n z (drop w xs) e (omega arith) same in
+    rows-suc f ds w (a + start) n xs e ∙ rw (here, rest) (sym (rows-suc g ds w start n xs e))

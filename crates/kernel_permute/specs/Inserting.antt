@@ -16,7 +16,10 @@ unshifted [] xs = []
 unshifted (at ∷ ats) [] = []
 unshifted (at ∷ ats) (x ∷ xs) = (x - at) ∷ unshifted ats xs
 
+-- the number at x, once it has met the source's at `x - at`; outside the part it stays
+abbrev pub put : How → List ℕ → List ℕ → List ℕ → List ℕ → ℕ → ℕ
+put how size from at x number = if is_in_part at size x then combined how number (slice_index from (place size (unshifted at x))) else number
+
 -- the target, in which the number at `at + y` has met the source's at y, and the other numbers stay
 abbrev pub inserted : How → List ℕ → List ℕ → List ℕ → List ℕ → List ℕ → List ℕ
-inserted how size from dims at old =
-    each_number (λ x number. if is_in_part at size x then combined how number (slice_index from (place size (unshifted at x))) else number) dims old
+inserted how size from dims at old = each_number (put how size from at) dims old

@@ -5,3 +5,4 @@ pub mod Slicing
 pub mod Inserting
 pub mod Gathering
 pub mod Strided
+pub mod Parts

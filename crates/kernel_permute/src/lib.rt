@@ -4,6 +4,8 @@
 mod axis;
 mod gathering;
 mod how;
+mod inserting;
+mod part;
 mod permuting;
 mod slicing;
 mod strided;

@@ -9,7 +9,7 @@ use crate::how::How;
 
 // One row: each number of the target meets one of the source.
 #[inline]
-fn read_row(from: &[u64], base: usize, stride: usize, to: &mut [u64], how: How)
+pub fn read_row(from: &[u64], base: usize, stride: usize, to: &mut [u64], how: How)
     requires within { base + (length to.old - 1) * stride < length from.now }
     ensures value { to.new ≡ each_number (met how from.now base (stride ∷ [])) (length to.old ∷ []) to.old }
 {

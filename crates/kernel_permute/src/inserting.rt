@@ -1,0 +1,49 @@
+//! Parts of blocks put in.
+
+ghost use Rattle.std.specs.Prelude.{◌≡◌, ◌≤◌, ◌<◌, ◌∷◌, length};
+ghost use Rattle.kernel_permute.specs.Inserting.{inserted};
+ghost use Rattle.kernel_permute.specs.Parts.{dims_of, sizes, starts};
+ghost use Rattle.kernel_permute.specs.Positions.{product};
+ghost use Rattle.kernel_permute.specs.Slicing.{IsPart};
+
+use crate::how::How;
+use crate::part::Part;
+use crate::strided::read_row;
+
+#[cycle(insertion)]
+fn insert(from: &[u64], parts: &[Part], to: &mut [u64], how: How)
+    requires part { IsPart (starts parts.now) (sizes parts.now) (dims_of parts.now) }
+    requires from_length { length from.now ≡ product (sizes parts.now) }
+    requires to_length { length to.old ≡ product (dims_of parts.now) }
+    requires some { 0 < length from.now }
+    ensures value { to.new ≡ inserted how (sizes parts.now) from.now (dims_of parts.now) (starts parts.now) to.old }
+{
+    match parts {
+        [] => to[0] = how.combine(to[0], from[0]),
+        [first, rest @ ..] => {
+            let width = to.len() / first.dim;
+            let inner = &mut to[first.at * width..(first.at + first.size) * width];
+            insert_rows(from, first.size, rest, inner, how);
+        }
+    }
+}
+
+// The rows of a part, each with the same inner part.
+#[cycle(insertion)]
+fn insert_rows(from: &[u64], count: usize, rest: &[Part], to: &mut [u64], how: How)
+    requires part { IsPart (starts rest.now) (sizes rest.now) (dims_of rest.now) }
+    requires from_length { length from.now ≡ product (count ∷ sizes rest.now) }
+    requires to_length { length to.old ≡ product (count ∷ dims_of rest.now) }
+    requires some { 0 < length from.now }
+    ensures value { to.new ≡ inserted how (count ∷ sizes rest.now) from.now (count ∷ dims_of rest.now) (0 ∷ starts rest.now) to.old }
+{
+    if rest.is_empty() {
+        read_row(from, 0, 1, to, how);
+        return;
+    }
+    let piece = from.len() / count;
+    let width = to.len() / count;
+    for i in 0..count {
+        insert(&from[i * piece..(i + 1) * piece], rest, &mut to[i * width..(i + 1) * width], how);
+    }
+}
