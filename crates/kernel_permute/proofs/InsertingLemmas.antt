@@ -18,7 +18,7 @@ use borrow.Rule.Slice.PartMut.{put_mid}
 use Rattle.kernel_permute.proofs.PositionsLemmas.{zipped-same, rows-kept, rows-shifted, rows_turn, rows_done, rows, rows-suc, rows-append, each_number-same, each_number-kept, length-positions}
 
 -- a position in the part stands for one of the source's
-place_within : (at size x : List ℕ) → is_in_part at size x ≡ true → place size (unshifted at x) < product size
+pub place_within : (at size x : List ℕ) → is_in_part at size x ≡ true → place size (unshifted at x) < product size
 place_within [] [] [] is = omega arith
 place_within [] [] (x ∷ xs) is = absurd cc
 place_within [] (z ∷ zs) xs is = absurd cc

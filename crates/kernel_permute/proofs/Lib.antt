@@ -5,3 +5,4 @@ pub mod OrderLemmas
 pub mod PermutingLemmas
 pub mod SlicingLemmas
 pub mod InsertingLemmas
+pub mod PartsLemmas

@@ -10,6 +10,32 @@ use crate::how::How;
 use crate::part::Part;
 use crate::strided::read_row;
 
+/// The source becomes the part of the target that begins at `at`; the rest of the target stays.
+pub fn put_in<const R: usize>(
+    from: &[u64],
+    size: &[u32; R],
+    to: &mut [u64],
+    dims: &[u32; R],
+    at: &[u32; R],
+    how: How,
+)
+    requires rank { R ≤ 6 }
+    requires part { IsPart at.now size.now dims.now }
+    requires from_length { length from.now ≡ product size.now }
+    requires to_length { length to.old ≡ product dims.now }
+    ensures value { to.new ≡ inserted how size.now from.now dims.now at.now to.old }
+{
+    if from.is_empty() {
+        return;
+    }
+    let mut parts = [Part { at: 0, size: 0, dim: 0 }; R];
+    for k in 0..R {
+        parts[k] = Part { at: at[k] as usize, size: size[k] as usize, dim: dims[k] as usize };
+    }
+    insert(from, &parts, to, how);
+}
+
+// A part that is not empty.
 #[cycle(insertion)]
 fn insert(from: &[u64], parts: &[Part], to: &mut [u64], how: How)
     requires part { IsPart (starts parts.now) (sizes parts.now) (dims_of parts.now) }

@@ -13,5 +13,6 @@ mod strides;
 
 pub use gathering::gather;
 pub use how::How;
+pub use inserting::put_in;
 pub use permuting::permute;
 pub use slicing::slice_out;
