@@ -1,6 +1,7 @@
 //! Permuted copies, slices and insertions of blocks, for every rank from 1 to 6.
 #![tactic(auto)]
 
+mod any;
 mod axis;
 mod gathering;
 mod how;
@@ -11,6 +12,9 @@ mod slicing;
 mod strided;
 mod strides;
 
+pub use any::permute_any;
+pub use any::put_in_any;
+pub use any::slice_out_any;
 pub use gathering::gather;
 pub use how::How;
 pub use inserting::put_in;
