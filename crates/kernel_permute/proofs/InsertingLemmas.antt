@@ -144,7 +144,7 @@ first_split first rest parts m n split part source target some =
       source = source_is;
       width = width;
       target = target_is ∙ ap (λ w. first.dim * w) width;
-      dim = dim
+      dim = dim;
     }
 
 -- how many numbers lie in the rows of the part

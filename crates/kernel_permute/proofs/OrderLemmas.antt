@@ -1,10 +1,10 @@
 -- Lemmas on orders, which name each dimension once.
-use Rattle.std.proofs.Common.{◌≡◌, ◌≢◌, ℕ, zero, suc, ◌+◌, ◌-◌, ◌*◌, ◌<◌, ◌≤◌, min, Bool, true, false, nat_eq, List, [], ◌∷◌, length, get_or, set, map, replicate, ap, sym, ◌∙◌, refl, arith, get_or-set_same, get_or-set_other, length-set}
+use Rattle.std.proofs.Common.{◌≡◌, ◌≢◌, ℕ, zero, suc, ◌+◌, ◌-◌, ◌*◌, ◌<◌, ◌≤◌, min, Bool, true, false, not, ◌&&◌, nat_eq, nat_lt, List, [], ◌∷◌, length, get_or, set, map, replicate, ap, sym, ◌∙◌, refl, arith, get_or-set_same, get_or-set_other, length-set}
 use Rattle.std.specs.List.{AllByRecursion, IsDistinct}
 use Rattle.std.proofs.Math.Nat.{mul-pos}
-use Rattle.std.proofs.lemmas.Bool.{eqb-false}
+use Rattle.std.proofs.lemmas.Bool.{eqb-false, ltb-true, not-true, and_parts}
 use Rattle.std.proofs.lemmas.List.{length-replicate, length-map}
-use Rattle.std.proofs.lemmas.List.Elements.{recursion_from_All}
+use Rattle.std.proofs.lemmas.List.Elements.{All-from_recursion, recursion_from_All}
 use Rattle.kernel_permute.specs.Permuting.{IsOrder, picked, unpicked}
 use Rattle.kernel_permute.specs.Positions.{product, strides_of, along, place}
 use Rattle.kernel_permute.proofs.ProductLemmas.{positive_left, positive_right}
@@ -129,3 +129,42 @@ along-picked n ss (k ∷ ks) (y ∷ ys) long below once =
     let in_xs : k < length (unpicked n ks ys) = rw (length-unpicked n ks ys) below.0 in
     let rest : along (picked ks ss) ys ≡ along ss (unpicked n ks ys) = along-picked n ss ks ys long below.1 once.1 in
     sym (along-set ss (unpicked n ks ys) k y in_ss in_xs (get_or-unpicked_other n ks ys k once.0) ∙ ap (λ r. y * get_or ss k 0 + r) (sym rest))
+
+-- no member is k, as a test
+abbrev pub lacks : ℕ → List ℕ → Bool
+lacks k [] = true
+lacks k (j ∷ ks) = not (nat_eq k j) && lacks k ks
+
+abbrev pub differ : List ℕ → Bool
+differ [] = true
+differ (k ∷ ks) = lacks k ks && differ ks
+
+abbrev pub all_below : ℕ → List ℕ → Bool
+all_below n [] = true
+all_below n (k ∷ ks) = nat_lt k n && all_below n ks
+
+-- each dimension is named once, as a test
+abbrev pub is_order : List ℕ → Bool
+is_order order = all_below (length order) order && differ order
+
+lacks_tells : (k : ℕ) (ks : List ℕ) → lacks k ks ≡ true → Lacks k ks
+lacks_tells k [] is = tt
+lacks_tells k (j ∷ ks) is = let parts = and_parts (not (nat_eq k j)) (lacks k ks) is in (not-true (nat_eq k j) parts.0, lacks_tells k ks parts.1)
+
+differ_tells : (ks : List ℕ) → differ ks ≡ true → IsDistinct nat_eq ks
+unfolding IsDistinct
+differ_tells [] is = tt
+differ_tells (k ∷ ks) is = let parts = and_parts (lacks k ks) (differ ks) is in (lacks_tells k ks parts.0, differ_tells ks parts.1)
+
+below_tells : (n : ℕ) (ks : List ℕ) → all_below n ks ≡ true → AllBelow n ks
+below_tells n [] is = tt
+below_tells n (k ∷ ks) is = let parts = and_parts (nat_lt k n) (all_below n ks) is in (ltb-true k n parts.0, below_tells n ks parts.1)
+
+-- an order that is written out
+pub order_from_test : (order : List ℕ) → is_order order ≡ true → IsOrder order
+order_from_test order is =
+    let parts = and_parts (all_below (length order) order) (differ order) is in
+    record {
+      within = All-from_recursion (λ k. k < length order) order (below_tells (length order) order parts.0);
+      once = differ_tells order parts.1
+    }

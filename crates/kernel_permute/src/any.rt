@@ -44,7 +44,13 @@ pub fn permute_any(
 {
     by_rank!(
         rank,
-        permute(from, dims.first_chunk().unwrap(), order.first_chunk().unwrap(), to, how)
+        permute(
+            from,
+            dims.first_chunk().unwrap(),
+            order.first_chunk().unwrap(),
+            to,
+            how
+        )
     )
 }
 

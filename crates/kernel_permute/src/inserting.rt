@@ -28,9 +28,17 @@ pub fn put_in<const R: usize>(
     if from.is_empty() {
         return;
     }
-    let mut parts = [Part { at: 0, size: 0, dim: 0 }; R];
+    let mut parts = [Part {
+        at: 0,
+        size: 0,
+        dim: 0,
+    }; R];
     for k in 0..R {
-        parts[k] = Part { at: at[k] as usize, size: size[k] as usize, dim: dims[k] as usize };
+        parts[k] = Part {
+            at: at[k] as usize,
+            size: size[k] as usize,
+            dim: dims[k] as usize,
+        };
     }
     insert(from, &parts, to, how);
 }
@@ -70,6 +78,11 @@ fn insert_rows(from: &[u64], count: usize, rest: &[Part], to: &mut [u64], how: H
     let piece = from.len() / count;
     let width = to.len() / count;
     for i in 0..count {
-        insert(&from[i * piece..(i + 1) * piece], rest, &mut to[i * width..(i + 1) * width], how);
+        insert(
+            &from[i * piece..(i + 1) * piece],
+            rest,
+            &mut to[i * width..(i + 1) * width],
+            how,
+        );
     }
 }

@@ -11,10 +11,10 @@ mod permuting;
 mod slicing;
 mod strided;
 mod strides;
+#[cfg(test)]
+mod tests;
 
-pub use any::permute_any;
-pub use any::put_in_any;
-pub use any::slice_out_any;
+pub use any::{permute_any, put_in_any, slice_out_any};
 pub use gathering::gather;
 pub use how::How;
 pub use inserting::put_in;

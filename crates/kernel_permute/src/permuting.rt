@@ -30,7 +30,10 @@ pub fn permute<const R: usize>(
     let mut axes = [Axis { len: 1, stride: 1 }; R];
     for k in 0..R {
         let axis = order[k] as usize;
-        axes[k] = Axis { len: dims[axis] as usize, stride: apart[axis] };
+        axes[k] = Axis {
+            len: dims[axis] as usize,
+            stride: apart[axis],
+        };
     }
     read(from, 0, &axes, to, how);
 }

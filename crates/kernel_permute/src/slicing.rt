@@ -32,7 +32,10 @@ pub fn slice_out<const R: usize>(
     let mut base = 0;
     for k in 0..R {
         base += at[k] as usize * apart[k];
-        axes[k] = Axis { len: size[k] as usize, stride: apart[k] };
+        axes[k] = Axis {
+            len: size[k] as usize,
+            stride: apart[k],
+        };
     }
     read(from, base, &axes, to, how);
 }

@@ -30,7 +30,13 @@ pub fn read(from: &[u64], base: usize, axes: &[Axis], to: &mut [u64], how: How)
         [first, rest @ ..] => {
             let width = to.len() / first.len;
             for i in 0..first.len {
-                read(from, base + i * first.stride, rest, &mut to[i * width..(i + 1) * width], how);
+                read(
+                    from,
+                    base + i * first.stride,
+                    rest,
+                    &mut to[i * width..(i + 1) * width],
+                    how,
+                );
             }
         }
     }

@@ -9,21 +9,21 @@ use Rattle.kernel_permute.proofs.inserting.+insertion.Goals as goal
 
 pub insert-overflow_add-inner : goal.insert-overflow_add-inner
 insert-overflow_add-inner t c =
-    let none : Part = record {at = 0; size = 0; dim = 0} in
+    let none : Part = record { at = 0; size = 0; dim = 0 } in
     let known = first_split _ _ c.args.parts.now (length c.args.from.now) (length c.args.to.now) (first_rest c.args.parts.now none (omega arith)) c.requires.part c.requires.from_length c.requires.to_length c.requires.some in
     let size : length c.args.to.now < 2 ^ 64 = search rules in
     omega (arith, known.fits)
 
 pub insert-insert_rows-requires : goal.insert-insert_rows-requires
 insert-insert_rows-requires t c =
-    let none : Part = record {at = 0; size = 0; dim = 0} in
+    let none : Part = record { at = 0; size = 0; dim = 0 } in
     let known = first_split _ _ c.args.parts.now (length c.args.from.now) (length c.args.to.now) (first_rest c.args.parts.now none (omega arith)) c.requires.part c.requires.from_length c.requires.to_length c.requires.some in
     let falls : 2 * length (take (length c.args.parts.now - 1) (drop 1 c.args.parts.now)) + 1 < 2 * length c.args.parts.now = omega (arith, length-take (length c.args.parts.now - 1) (drop 1 c.args.parts.now)) in
     (omega (arith, c.decreases), (known.part, (known.source, (length-inner _ _ (length c.args.from.now) c.args.to.now known, c.requires.some))))
 
 pub insert-returns-in-len1-up : goal.insert-returns-in-len1-up
 insert-returns-in-len1-up t c =
-    let none : Part = record {at = 0; size = 0; dim = 0} in
+    let none : Part = record { at = 0; size = 0; dim = 0 } in
     let split = first_rest c.args.parts.now none (omega arith) in
     let known = first_split _ _ c.args.parts.now (length c.args.from.now) (length c.args.to.now) split c.requires.part c.requires.from_length c.requires.to_length c.requires.some in
     record { value = insert_first c.args.how _ _ c.args.parts.now c.args.from.now c.args.to.now c.insert_rows.new.to _ split known c.insert_rows.ensures.value refl }

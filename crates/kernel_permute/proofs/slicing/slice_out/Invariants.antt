@@ -7,5 +7,5 @@ abbrev pub invariant-loop-k : goal.invariant-loop-k
 invariant-loop-k g l = record {
   begins : l.base + along (drop l.k l.apart) (drop l.k l.at) ≡ along l.apart l.at;
   done : take l.k l.axes ++ axes_with (drop l.k l.size) (drop l.k l.apart) ≡ axes_with l.size l.apart;
-  long : length l.axes ≡ length l.size
+  long : length l.axes ≡ length l.size;
 }

@@ -6,7 +6,7 @@ use Rattle.kernel_permute.proofs.strided.+read.Goals as goal
 
 pub loop-i-preserved : goal.loop-i-preserved
 loop-i-preserved t c =
-    let none : Axis = record {len = 0; stride = 0} in
+    let none : Axis = record { len = 0; stride = 0 } in
     let split = first_rest c.args.axes.now none (omega arith) in
     let fill = c.loop-i.auto.to ∙ rows_fill _ _ c.args.axes.now (length c.args.to.now) split c.requires.same_length c.requires.some in
     read_turn c.args.how c.args.from.now c.args.base _ c.loop-i.i _ _ c.args.axes.now c.loop-i.to c.read.new.to _ _ split
@@ -15,7 +15,7 @@ loop-i-preserved t c =
 
 pub returns-after-loop-i : goal.returns-after-loop-i
 returns-after-loop-i t c =
-    let none : Axis = record {len = 0; stride = 0} in
+    let none : Axis = record { len = 0; stride = 0 } in
     let split = first_rest c.args.axes.now none (omega arith) in
     let fill = c.loop-i.auto.to ∙ rows_fill _ _ c.args.axes.now (length c.args.to.now) split c.requires.same_length c.requires.some in
     record { value = read_done c.args.how c.args.from.now c.args.base _ c.loop-i.i (get_or c.args.axes.now 0 none) (take (length c.args.axes.now - 1) (drop 1 c.args.axes.now)) c.args.axes.now c.loop-i.to _ c.loop-i-test.false fill c.loop-i.invariant }

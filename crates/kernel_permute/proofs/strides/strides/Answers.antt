@@ -11,7 +11,7 @@ overflow_mul-width g c =
 
 pub loop-k-preserved : goal.loop-k-preserved
 loop-k-preserved g c = record {
-    done = strides_turn c.args.dims.now c.loop-k.strides (c.loop-k.k - 1) c.loop-k.k c.loop-k.width (omega arith) (omega arith) c.loop-k.invariant.long c.loop-k.invariant.width c.loop-k.invariant.done;
-    width = product_turn c.args.dims.now (c.loop-k.k - 1) c.loop-k.k c.loop-k.width (omega arith) (omega arith) c.loop-k.invariant.width;
-    long = length-set c.loop-k.strides (c.loop-k.k - 1) c.loop-k.width ∙ c.loop-k.invariant.long
-  }
+  done = strides_turn c.args.dims.now c.loop-k.strides (c.loop-k.k - 1) c.loop-k.k c.loop-k.width (omega arith) (omega arith) c.loop-k.invariant.long c.loop-k.invariant.width c.loop-k.invariant.done;
+  width = product_turn c.args.dims.now (c.loop-k.k - 1) c.loop-k.k c.loop-k.width (omega arith) (omega arith) c.loop-k.invariant.width;
+  long = length-set c.loop-k.strides (c.loop-k.k - 1) c.loop-k.width ∙ c.loop-k.invariant.long;
+}

@@ -6,5 +6,5 @@ abbrev pub invariant-loop-k : goal.invariant-loop-k
 invariant-loop-k g l = record {
   done : drop l.k l.strides ≡ strides_of (drop l.k l.dims);
   width : l.width ≡ product (drop l.k l.dims);
-  long : length l.strides ≡ length l.dims
+  long : length l.strides ≡ length l.dims;
 }
