@@ -1,8 +1,8 @@
 -- Lemmas on a part that is put in row by row.
-use Rattle.std.proofs.Common.{◌≡◌, ℕ, zero, suc, ◌+◌, ◌-◌, ◌*◌, ◌/◌, ◌<◌, ◌≤◌, Bool, true, false, cond, ◌&&◌, nat_le, nat_lt, List, [], ◌∷◌, ◌++◌, length, get_or, take, drop, ap, sym, ◌∙◌, refl, arith, append_assoc, append-nil}
+use Rattle.std.proofs.Common.{◌≡◌, ℕ, ◌+◌, ◌-◌, ◌*◌, ◌/◌, ◌<◌, ◌≤◌, Bool, true, false, cond, ◌&&◌, nat_le, nat_lt, List, [], ◌∷◌, ◌++◌, length, get_or, take, drop, ap, sym, ◌∙◌, refl, arith}
 use Rattle.std.proofs.Math.Nat.{mul-le-mul_right, mul-div_cancel_left, le-mul_of_pos_right, mul-pos}
 use Rattle.std.proofs.lemmas.Bool.{ltb-true, leb-true, lt-ltb, le-leb, le-ltb, lt-leb, and_parts}
-use Rattle.std.proofs.lemmas.List.{length-drop, length-take, length-take-le, get_or-take, get_or-drop, take-append-drop, drop-drop}
+use Rattle.std.proofs.lemmas.List.{length-drop, length-take-le, get_or-take, get_or-drop}
 use Rattle.kernel_permute.specs.declared.how.How.{How}
 use Rattle.kernel_permute.specs.declared.part.Part.{Part}
 use Rattle.kernel_permute.specs.How.{combined}
@@ -15,7 +15,7 @@ use Rattle.kernel_permute.proofs.ProductLemmas.{positive_left, positive_right}
 use Rattle.kernel_permute.proofs.SlicingLemmas.{positive_from_part}
 use Rattle.std.proofs.lemmas.Slice.{take-put_mid, drop-put_mid}
 use borrow.Rule.Slice.PartMut.{put_mid}
-use Rattle.kernel_permute.proofs.PositionsLemmas.{zipped-same, rows-kept, rows-shifted, rows_turn, rows_done, rows, rows-suc, rows-append, each_number-same, each_number-kept, length-positions}
+use Rattle.kernel_permute.proofs.PositionsLemmas.{zipped-same, rows-kept, rows-shifted, rows_turn, rows_done, rows, rows-append, each_number-same}
 
 -- a position in the part stands for one of the source's
 pub place_within : (at size x : List ℕ) → is_in_part at size x ≡ true → place size (unshifted at x) < product size
@@ -165,12 +165,18 @@ insert_first how first rest parts from to inner new split known is written =
     ∙ ap (λ d. inserted how (first.size ∷ sizes rest) from (d ∷ dims_of rest) (first.at ∷ starts rest) to) (sym parted)
     ∙ ap (λ p. inserted how (sizes p) from (dims_of p) (starts p) to) (sym split)
 
--- a whole row of the part, where no dimension is left
-pub insert_last : (how : How) (count : ℕ) (rest : List Part) (from to new : List ℕ) → rest ≡ [] → length to ≡ product (count ∷ dims_of rest) → new ≡ each_number (met how from 0 (1 ∷ [])) (length to ∷ []) to → new ≡ inserted how (count ∷ sizes rest) from (count ∷ dims_of rest) (0 ∷ starts rest) to
-insert_last how count rest from to new none long is =
-    let one : count * product (dims_of rest) ≡ count = ap (λ p. count * product (dims_of p)) none ∙ omega arith in
-    is ∙ insert_row how (length to) count from to (long ∙ one)
-    ∙ ap (λ p. inserted how (count ∷ sizes p) from (count ∷ dims_of p) (0 ∷ starts p) to) (sym none)
+-- a row, with the source in its middle
+pub insert_row_is : (how : How) (a z d n : ℕ) (from old inner new : List ℕ) → a + z ≤ d → length old ≡ d → n ≡ length (take (a + z - a) (drop a old)) → inner ≡ each_number (met how from 0 (1 ∷ [])) (n ∷ []) (take (a + z - a) (drop a old)) → new ≡ put_mid a (a + z - a) old inner → new ≡ inserted how (z ∷ []) from (d ∷ []) (a ∷ []) old
+insert_row_is how a z d n from old inner new within long count is written =
+    let r = d - (a + z) in
+    let parted : d ≡ a + (z + r) = omega arith in
+    let one : a ≡ a * 1 = omega arith in
+    let k : a + z - a ≡ (a + z) * 1 - a * 1 = omega arith in
+    let middle : take (a + z - a) (drop a old) ≡ take ((a + z) * 1 - a * 1) (drop (a * 1) old) = ap (λ m. take m (drop a old)) k ∙ ap (λ m. take ((a + z) * 1 - a * 1) (drop m old)) one in
+    let full : n ≡ z = count ∙ length-take-le (a + z - a) (drop a old) (omega (arith, length-drop a old)) ∙ omega arith in
+    let inner_is : inner ≡ inserted how (z ∷ []) from (z ∷ []) (0 ∷ []) (take ((a + z) * 1 - a * 1) (drop (a * 1) old)) = is ∙ insert_row how n z from (take (a + z - a) (drop a old)) full ∙ ap (inserted how (z ∷ []) from (z ∷ []) (0 ∷ [])) middle in
+    let new_is : new ≡ put_mid (a * 1) ((a + z) * 1 - a * 1) old inner = written ∙ ap (λ m. put_mid a m old inner) k ∙ ap (λ m. put_mid m ((a + z) * 1 - a * 1) old inner) one in
+    insert_is how a z r 1 [] from [] [] old inner new refl (long ∙ omega arith) inner_is new_is ∙ ap (λ m. inserted how (z ∷ []) from (m ∷ []) (a ∷ []) old) (sym parted)
 
 -- the numbers of one of so many rows
 pub row_of : (count n m : ℕ) → m ≡ count * n → 0 < m → n ≡ m / count

@@ -1,12 +1,12 @@
 -- Lemmas on orders, which name each dimension once.
-use Rattle.std.proofs.Common.{◌≡◌, ◌≢◌, ℕ, zero, suc, ◌+◌, ◌-◌, ◌*◌, ◌<◌, ◌≤◌, min, Bool, true, false, not, ◌&&◌, nat_eq, nat_lt, List, [], ◌∷◌, length, get_or, set, map, replicate, ap, sym, ◌∙◌, refl, arith, get_or-set_same, get_or-set_other, length-set}
+use Rattle.std.proofs.Common.{◌≡◌, ◌≢◌, ℕ, zero, suc, ◌+◌, ◌*◌, ◌<◌, ◌≤◌, min, Bool, true, false, not, ◌&&◌, nat_eq, nat_lt, List, [], ◌∷◌, length, get_or, set, map, replicate, ap, sym, ◌∙◌, refl, arith, get_or-set_other, length-set}
 use Rattle.std.specs.List.{AllByRecursion, IsDistinct}
 use Rattle.std.proofs.Math.Nat.{mul-pos}
 use Rattle.std.proofs.lemmas.Bool.{eqb-false, ltb-true, not-true, and_parts}
 use Rattle.std.proofs.lemmas.List.{length-replicate, length-map}
 use Rattle.std.proofs.lemmas.List.Elements.{All-from_recursion, recursion_from_All}
 use Rattle.kernel_permute.specs.Permuting.{IsOrder, picked, unpicked}
-use Rattle.kernel_permute.specs.Positions.{product, strides_of, along, place}
+use Rattle.kernel_permute.specs.Positions.{product, along}
 use Rattle.kernel_permute.proofs.ProductLemmas.{positive_left, positive_right}
 
 -- the numbers added up
@@ -166,5 +166,5 @@ order_from_test order is =
     let parts = and_parts (all_below (length order) order) (differ order) is in
     record {
       within = All-from_recursion (λ k. k < length order) order (below_tells (length order) order parts.0);
-      once = differ_tells order parts.1
+      once = differ_tells order parts.1;
     }

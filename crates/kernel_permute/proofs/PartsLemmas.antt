@@ -1,5 +1,5 @@
 -- Lemmas on parts, put together dimension by dimension.
-use Rattle.std.proofs.Common.{◌≡◌, ℕ, suc, ◌+◌, ◌-◌, ◌*◌, ◌<◌, ◌≤◌, Bool, true, false, cond, List, [], ◌∷◌, ◌++◌, length, get_or, take, drop, ap, sym, ◌∙◌, refl, arith, append-nil}
+use Rattle.std.proofs.Common.{◌≡◌, ℕ, ◌<◌, ◌≤◌, Bool, true, false, cond, List, [], ◌∷◌, ◌++◌, length, get_or, take, drop, ap, sym, ◌∙◌, refl, arith, append-nil}
 use Rattle.std.proofs.lemmas.List.{take_all, drop_all}
 use Rattle.kernel_permute.specs.declared.how.How.{How}
 use Rattle.kernel_permute.specs.declared.part.Part.{Part}

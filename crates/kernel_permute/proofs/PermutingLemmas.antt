@@ -1,7 +1,6 @@
 -- Lemmas on a source that is read along strides in another order.
-use Rattle.std.proofs.Common.{◌≡◌, ℕ, zero, suc, ◌+◌, ◌-◌, ◌*◌, ◌<◌, ◌≤◌, nat_eq, List, [], ◌∷◌, length, take, get_or, map, ap, sym, ◌∙◌, refl, arith, zero-add}
-use Rattle.std.specs.List.{IsDistinct}
-use Rattle.std.proofs.lemmas.List.{length-map, take_all}
+use Rattle.std.proofs.Common.{◌≡◌, ℕ, zero, suc, ◌+◌, ◌-◌, ◌*◌, ◌<◌, ◌≤◌, List, [], ◌∷◌, length, take, get_or, map, ap, sym, ◌∙◌, refl, arith, zero-add}
+use Rattle.std.proofs.lemmas.List.{take_all}
 use Rattle.std.proofs.lemmas.List.Elements.{recursion_from_All}
 use Rattle.kernel_permute.specs.declared.axis.Axis.{Axis}
 use Rattle.kernel_permute.specs.declared.how.How.{How}
@@ -9,7 +8,7 @@ use Rattle.kernel_permute.specs.How.{combined}
 use Rattle.kernel_permute.specs.Permuting.{IsOrder, picked, unpicked, permuted}
 use Rattle.kernel_permute.specs.Positions.{product, strides_of, along, place, positions, each_number}
 use Rattle.kernel_permute.specs.Strided.{lengths, strides, reach, met}
-use Rattle.kernel_permute.proofs.ProductLemmas.{positive_left, positive_right, length-strides_of}
+use Rattle.kernel_permute.proofs.ProductLemmas.{positive_right, length-strides_of}
 use Rattle.kernel_permute.proofs.PositionsLemmas.{zipped-same, zipped-nil}
 use Rattle.kernel_permute.proofs.OrderLemmas.{total, AllBelow, total-picked, along-picked}
 

@@ -1,7 +1,7 @@
 -- Lemmas on positions, which come row by row.
-use Rattle.std.proofs.Common.{◌≡◌, ℕ, zero, suc, ◌+◌, ◌-◌, ◌*◌, ◌<◌, ◌≤◌, List, [], ◌∷◌, ◌++◌, length, get_or, take, drop, set, map, sym, ◌∙◌, ap, refl, add-one, add_assoc, append_assoc, append-nil, arith, length-append, length-take, length-drop}
+use Rattle.std.proofs.Common.{◌≡◌, ℕ, zero, suc, ◌+◌, ◌-◌, ◌*◌, ◌<◌, ◌≤◌, List, [], ◌∷◌, ◌++◌, length, take, drop, map, sym, ◌∙◌, ap, refl, append_assoc, append-nil, arith, length-append, length-drop}
 use Rattle.std.specs.List.{AllByRecursion, flat_map, range_with_len}
-use Rattle.std.proofs.lemmas.List.{nil_from_length, length-map, take_more_set, drop-set-lt, drop-drop, drop_more, take_all, take-append-drop, length-take-le}
+use Rattle.std.proofs.lemmas.List.{nil_from_length, length-map, drop-drop, take_all, take-append-drop, length-take-le}
 use Rattle.kernel_permute.specs.Positions.{IsPosition, product, positions, zipped, each_number}
 
 -- the positions of n rows, from one on

@@ -1,6 +1,6 @@
 -- Lemmas on products of dimensions and on strides.
-use Rattle.std.proofs.Common.{◌≡◌, ℕ, zero, suc, ◌+◌, ◌-◌, ◌*◌, ◌<◌, ◌≤◌, List, [], ◌∷◌, length, get_or, drop, set, ap, sym, ◌∙◌, refl, arith}
-use Rattle.std.proofs.Math.Nat.{mul_comm, mul-le-mul_right, le-mul_of_pos_right}
+use Rattle.std.proofs.Common.{◌≡◌, ℕ, zero, suc, ◌+◌, ◌*◌, ◌<◌, ◌≤◌, List, [], ◌∷◌, length, get_or, drop, set, ap, sym, ◌∙◌, refl, arith}
+use Rattle.std.proofs.Math.Nat.{mul_comm, le-mul_of_pos_right}
 use Rattle.std.proofs.lemmas.List.{drop-set, drop_more}
 use Rattle.kernel_permute.specs.Positions.{product, strides_of}
 

@@ -1,7 +1,7 @@
 -- Lemmas on a source that is read along its own strides from a position on.
-use Rattle.std.proofs.Common.{◌≡◌, ℕ, zero, suc, ◌+◌, ◌-◌, ◌*◌, ◌<◌, ◌≤◌, List, [], ◌∷◌, ◌++◌, length, get_or, take, drop, set, ap, sym, ◌∙◌, refl, arith, append_assoc, append-nil}
+use Rattle.std.proofs.Common.{◌≡◌, ℕ, zero, suc, ◌+◌, ◌-◌, ◌*◌, ◌<◌, ◌≤◌, List, [], ◌∷◌, ◌++◌, length, get_or, take, drop, ap, sym, ◌∙◌, refl, arith, append-nil}
 use Rattle.std.proofs.Math.Nat.{mul-le-mul_right}
-use Rattle.std.proofs.lemmas.List.{drop_more, drop-set-lt, take_more_set, take_all, drop_all}
+use Rattle.std.proofs.lemmas.List.{drop_more, take_all, drop_all}
 use Rattle.kernel_permute.specs.declared.axis.Axis.{Axis}
 use Rattle.kernel_permute.specs.declared.how.How.{How}
 use Rattle.kernel_permute.specs.How.{combined}

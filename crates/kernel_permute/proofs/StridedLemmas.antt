@@ -1,13 +1,13 @@
 -- Lemmas on numbers read along strides.
-use Rattle.std.proofs.Common.{◌≡◌, ℕ, zero, suc, ◌+◌, ◌-◌, ◌*◌, ◌/◌, ◌<◌, ◌≤◌, List, [], ◌∷◌, ◌++◌, length, get_or, take, drop, set, map, sym, ◌∙◌, ap, refl, add-one, add_assoc, append_assoc, append-nil, arith}
-use Rattle.std.proofs.lemmas.List.{length-drop, length-take-le, take_more_set, drop-set-lt, drop_more, take_all}
+use Rattle.std.proofs.Common.{◌≡◌, ℕ, suc, ◌+◌, ◌-◌, ◌*◌, ◌/◌, ◌<◌, ◌≤◌, List, [], ◌∷◌, ◌++◌, length, get_or, take, drop, set, sym, ◌∙◌, ap, refl, add_assoc, append_assoc, arith}
+use Rattle.std.proofs.lemmas.List.{length-drop, length-take-le, take_more_set, drop-set-lt, drop_more}
 use Rattle.std.proofs.Math.Nat.{mul-le-mul_right, mul-div_cancel_left}
 use Rattle.std.proofs.lemmas.Slice.{take-put_mid, drop-put_mid}
 use borrow.Rule.Slice.PartMut.{put_mid}
 use Rattle.kernel_permute.specs.declared.axis.Axis.{Axis}
 use Rattle.kernel_permute.specs.declared.how.How.{How}
 use Rattle.kernel_permute.specs.How.{combined}
-use Rattle.kernel_permute.specs.Positions.{product, along, each_number, positions, zipped}
+use Rattle.kernel_permute.specs.Positions.{product, along, each_number, positions}
 use Rattle.kernel_permute.specs.Strided.{lengths, strides, met}
 use Rattle.kernel_permute.proofs.ProductLemmas.{positive_left}
 use Rattle.kernel_permute.proofs.PositionsLemmas.{rows, rows_turn, rows_done, zipped-same}

@@ -1,6 +1,6 @@
 //! Parts of blocks put in.
 
-ghost use Rattle.std.specs.Prelude.{◌≡◌, ◌≤◌, ◌<◌, ◌∷◌, length};
+ghost use Rattle.std.specs.Prelude.{◌≡◌, ◌+◌, ◌≤◌, ◌<◌, [], ◌∷◌, length};
 ghost use Rattle.kernel_permute.specs.Inserting.{inserted};
 ghost use Rattle.kernel_permute.specs.Parts.{dims_of, sizes, starts};
 ghost use Rattle.kernel_permute.specs.Positions.{product};
@@ -43,9 +43,38 @@ pub fn put_in<const R: usize>(
     insert(from, &parts, to, how);
 }
 
+// A row of the part.
+#[inline(always)]
+fn insert_row(from: &[u64], row: &Part, to: &mut [u64], how: How)
+    requires part { row.now.at + row.now.size ≤ row.now.dim }
+    requires from_length { length from.now ≡ row.now.size }
+    requires to_length { length to.old ≡ row.now.dim }
+    requires some { 0 < length from.now }
+    ensures value { to.new ≡ inserted how (row.now.size ∷ []) from.now (row.now.dim ∷ []) (row.now.at ∷ []) to.old }
+{
+    read_row(from, 0, 1, &mut to[row.at..row.at + row.size], how);
+}
+
 // A part that is not empty.
 #[cycle(insertion)]
+#[inline(always)]
 fn insert(from: &[u64], parts: &[Part], to: &mut [u64], how: How)
+    requires part { IsPart (starts parts.now) (sizes parts.now) (dims_of parts.now) }
+    requires from_length { length from.now ≡ product (sizes parts.now) }
+    requires to_length { length to.old ≡ product (dims_of parts.now) }
+    requires some { 0 < length from.now }
+    ensures value { to.new ≡ inserted how (sizes parts.now) from.now (dims_of parts.now) (starts parts.now) to.old }
+{
+    match parts {
+        [row] => insert_row(from, row, to, how),
+        _ => insert_block(from, parts, to, how),
+    }
+}
+
+// Row by row, so that only a block of rows costs a call.
+#[cycle(insertion)]
+#[inline(never)]
+fn insert_block(from: &[u64], parts: &[Part], to: &mut [u64], how: How)
     requires part { IsPart (starts parts.now) (sizes parts.now) (dims_of parts.now) }
     requires from_length { length from.now ≡ product (sizes parts.now) }
     requires to_length { length to.old ≡ product (dims_of parts.now) }
@@ -62,8 +91,9 @@ fn insert(from: &[u64], parts: &[Part], to: &mut [u64], how: How)
     }
 }
 
-// The rows of a part, each with the same inner part.
+// Rows that all lie in the part, each with the same part of the row.
 #[cycle(insertion)]
+#[inline(always)]
 fn insert_rows(from: &[u64], count: usize, rest: &[Part], to: &mut [u64], how: How)
     requires part { IsPart (starts rest.now) (sizes rest.now) (dims_of rest.now) }
     requires from_length { length from.now ≡ product (count ∷ sizes rest.now) }
@@ -71,10 +101,6 @@ fn insert_rows(from: &[u64], count: usize, rest: &[Part], to: &mut [u64], how: H
     requires some { 0 < length from.now }
     ensures value { to.new ≡ inserted how (count ∷ sizes rest.now) from.now (count ∷ dims_of rest.now) (0 ∷ starts rest.now) to.old }
 {
-    if rest.is_empty() {
-        read_row(from, 0, 1, to, how);
-        return;
-    }
     let piece = from.len() / count;
     let width = to.len() / count;
     for i in 0..count {

@@ -8,7 +8,7 @@ use crate::axis::Axis;
 use crate::how::How;
 
 // One row: each number of the target meets one of the source.
-#[inline]
+#[inline(always)]
 pub fn read_row(from: &[u64], base: usize, stride: usize, to: &mut [u64], how: How)
     requires within { base + (length to.old - 1) * stride < length from.now }
     ensures value { to.new ≡ each_number (met how from.now base (stride ∷ [])) (length to.old ∷ []) to.old }
@@ -18,6 +18,9 @@ pub fn read_row(from: &[u64], base: usize, stride: usize, to: &mut [u64], how: H
     }
 }
 
+/// Each number of the target meets the source's, which lies so far along the axes from the base.
+#[cycle(reading)]
+#[inline(always)]
 pub fn read(from: &[u64], base: usize, axes: &[Axis], to: &mut [u64], how: How)
     requires same_length { length to.old ≡ product (lengths axes.now) }
     requires some { 0 < length to.old }
@@ -25,8 +28,22 @@ pub fn read(from: &[u64], base: usize, axes: &[Axis], to: &mut [u64], how: How)
     ensures value { to.new ≡ each_number (met how from.now base (strides axes.now)) (lengths axes.now) to.old }
 {
     match axes {
-        [] => to[0] = how.combine(to[0], from[base]),
         [row] => read_row(from, base, row.stride, to, how),
+        _ => read_block(from, base, axes, to, how),
+    }
+}
+
+// Row by row, so that only a block of rows costs a call.
+#[cycle(reading)]
+#[inline(never)]
+fn read_block(from: &[u64], base: usize, axes: &[Axis], to: &mut [u64], how: How)
+    requires same_length { length to.old ≡ product (lengths axes.now) }
+    requires some { 0 < length to.old }
+    requires within { base + reach axes.now < length from.now }
+    ensures value { to.new ≡ each_number (met how from.now base (strides axes.now)) (lengths axes.now) to.old }
+{
+    match axes {
+        [] => to[0] = how.combine(to[0], from[base]),
         [first, rest @ ..] => {
             let width = to.len() / first.len;
             for i in 0..first.len {

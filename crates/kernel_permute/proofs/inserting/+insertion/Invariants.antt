@@ -5,10 +5,13 @@ use Rattle.kernel_permute.proofs.PositionsLemmas.{rows}
 use Rattle.kernel_permute.proofs.inserting.+insertion.Given as goal
 
 abbrev pub decreases-insert : goal.decreases-insert
-decreases-insert l = 2 * length l.parts.now
+decreases-insert l = 3 * length l.parts.now + 2
+
+abbrev pub decreases-insert_block : goal.decreases-insert_block
+decreases-insert_block l = 3 * length l.parts.now + 1
 
 abbrev pub decreases-insert_rows : goal.decreases-insert_rows
-decreases-insert_rows l = 2 * length l.rest.now + 1
+decreases-insert_rows l = 3 * length l.rest.now + 3
 
 abbrev pub invariant-insert_rows-loop-i : goal.invariant-insert_rows-loop-i
 invariant-insert_rows-loop-i l =

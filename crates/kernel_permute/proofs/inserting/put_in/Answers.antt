@@ -1,8 +1,4 @@
-use Rattle.std.proofs.Common.{◌≡◌, ◌∙◌, ap, sym, refl, length, arith}
-use Rattle.kernel_permute.specs.declared.part.Part.{Part}
-use Rattle.kernel_permute.specs.Inserting.{inserted}
-use Rattle.kernel_permute.specs.Parts.{dims_of, sizes, starts}
-use Rattle.kernel_permute.specs.Positions.{product}
+use Rattle.std.proofs.Common.{◌≡◌, ◌∙◌, sym, refl, length, arith}
 use Rattle.kernel_permute.proofs.PartsLemmas.{parts_with, parts_done, starts-parts_with, sizes-parts_with, dims_of-parts_with, inserted_none}
 use Rattle.kernel_permute.proofs.inserting.put_in.Goals as goal
 

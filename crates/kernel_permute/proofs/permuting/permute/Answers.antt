@@ -1,9 +1,6 @@
-use Rattle.std.proofs.Common.{◌≡◌, ◌<◌, ◌≤◌, ◌+◌, ◌*◌, ◌^◌, ◌∙◌, ap, sym, length, arith, rules}
-use Rattle.std.proofs.lemmas.Bool.{eqb-true, eqb-false}
-use Rattle.kernel_permute.specs.declared.axis.Axis.{Axis}
-use Rattle.kernel_permute.specs.Permuting.{IsOrder, permuted, picked}
-use Rattle.kernel_permute.specs.Positions.{product, positions, strides_of}
-use Rattle.kernel_permute.specs.Strided.{lengths, strides, reach}
+use Rattle.std.proofs.Common.{◌≡◌, ◌<◌, ◌*◌, ◌^◌, ◌∙◌, ap, length, arith, rules}
+use Rattle.kernel_permute.specs.Positions.{product, strides_of}
+use Rattle.kernel_permute.specs.Strided.{reach}
 use Rattle.kernel_permute.proofs.OrderLemmas.{positive_from_picked}
 use Rattle.kernel_permute.proofs.PermutingLemmas.{axes_of, axes_done, lengths-axes_of, reach_within, permuted_is, permuted_none}
 use Rattle.kernel_permute.proofs.permuting.permute.Goals as goal

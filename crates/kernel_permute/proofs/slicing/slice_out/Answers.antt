@@ -1,8 +1,8 @@
-use Rattle.std.proofs.Common.{◌≡◌, ◌<◌, ◌≤◌, ◌+◌, ◌*◌, ◌^◌, ◌∙◌, ap, sym, get_or, length, arith, rules}
+use Rattle.std.proofs.Common.{◌≡◌, ◌<◌, ◌≤◌, ◌+◌, ◌*◌, ◌^◌, ◌∙◌, ap, get_or, length, arith, rules}
 use Rattle.kernel_permute.specs.Positions.{product, strides_of, along, place}
-use Rattle.kernel_permute.specs.Strided.{lengths, reach}
+use Rattle.kernel_permute.specs.Strided.{reach}
 use Rattle.kernel_permute.proofs.ProductLemmas.{length-strides_of}
-use Rattle.kernel_permute.proofs.SlicingLemmas.{axes_with, axes_with_done, base_within, base_done, lengths-axes_with, length-part_at, length-part_size, part_reach, positive_from_part, sliced_is, sliced_none}
+use Rattle.kernel_permute.proofs.SlicingLemmas.{axes_with, axes_with_done, base_within, base_done, lengths-axes_with, part_reach, positive_from_part, sliced_is, sliced_none}
 use Rattle.kernel_permute.proofs.slicing.slice_out.Goals as goal
 
 pub returns-then-is_empty : goal.returns-then-is_empty

@@ -1,4 +1,4 @@
-use Rattle.std.proofs.Common.{◌<◌, ◌≡◌, length, arith}
+use Rattle.std.proofs.Common.{length, arith}
 use Rattle.kernel_permute.proofs.StridedLemmas.{row_turn}
 use Rattle.kernel_permute.proofs.strided.read_row.Goals as goal
 

@@ -1,4 +1,4 @@
-use Rattle.std.proofs.Common.{◌≡◌, ◌∙◌, length-set, ◌-◌, ◌+◌, ◌*◌, ◌≤◌, ◌<◌, get_or, drop, length, arith}
+use Rattle.std.proofs.Common.{◌≡◌, ◌∙◌, length-set, ◌-◌, ◌*◌, ◌≤◌, get_or, drop, arith}
 use Rattle.kernel_permute.specs.Positions.{product}
 use Rattle.kernel_permute.proofs.ProductLemmas.{product-drop, product_turn, strides_turn}
 use Rattle.kernel_permute.proofs.strides.strides.Goals as goal

@@ -1,11 +1,11 @@
-use Rattle.std.proofs.Common.{◌≡◌, ◌∙◌, ◌<◌, ◌≤◌, ◌-◌, ◌+◌, ◌*◌, ◌/◌, length, get_or, take, drop, refl, arith}
+use Rattle.std.proofs.Common.{◌∙◌, ◌-◌, length, get_or, take, drop, refl, arith}
 use Rattle.std.proofs.lemmas.Slice.{first_rest}
 use Rattle.kernel_permute.specs.declared.axis.Axis.{Axis}
 use Rattle.kernel_permute.proofs.StridedLemmas.{read_turn, read_done, row_width, rows_fill}
-use Rattle.kernel_permute.proofs.strided.+read.Goals as goal
+use Rattle.kernel_permute.proofs.strided.+reading.Goals as goal
 
-pub loop-i-preserved : goal.loop-i-preserved
-loop-i-preserved t c =
+pub read_block-loop-i-preserved : goal.read_block-loop-i-preserved
+read_block-loop-i-preserved t c =
     let none : Axis = record { len = 0; stride = 0 } in
     let split = first_rest c.args.axes.now none (omega arith) in
     let fill = c.loop-i.auto.to ∙ rows_fill _ _ c.args.axes.now (length c.args.to.now) split c.requires.same_length c.requires.some in
@@ -13,8 +13,8 @@ loop-i-preserved t c =
     (row_width _ _ c.args.axes.now (length c.args.to.now) split c.requires.same_length c.requires.some)
     c.loop-i-test.true fill c.read.auto.to c.read.ensures.value refl c.loop-i.invariant
 
-pub returns-after-loop-i : goal.returns-after-loop-i
-returns-after-loop-i t c =
+pub read_block-returns-after-loop-i : goal.read_block-returns-after-loop-i
+read_block-returns-after-loop-i t c =
     let none : Axis = record { len = 0; stride = 0 } in
     let split = first_rest c.args.axes.now none (omega arith) in
     let fill = c.loop-i.auto.to ∙ rows_fill _ _ c.args.axes.now (length c.args.to.now) split c.requires.same_length c.requires.some in
