@@ -1,0 +1,14 @@
+pub mod Number
+pub mod Sight
+pub mod Right
+pub mod Setting
+pub mod Own
+pub mod Access
+pub mod State
+pub mod LocalStep
+pub mod Statement
+pub mod Meaning
+pub mod Rest
+pub mod Accepted
+pub mod Costs
+pub mod Course

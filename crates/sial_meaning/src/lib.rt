@@ -1,0 +1,8 @@
+//! What a SIAL program means when one worker runs it alone, and which programs every schedule agrees on.
+#![tactic(auto)]
+
+mod clash;
+mod trap;
+
+pub use clash::Clash;
+pub use trap::{Trap, TrapKind};

@@ -1,0 +1,13 @@
+pub mod Tree
+pub mod Boxes
+pub mod Spaces
+pub mod Numbering
+pub mod Limits
+pub mod Names
+pub mod Proper
+pub mod Parts
+pub mod Visits
+pub mod Agreeing
+pub mod Shapes
+pub mod Sides
+pub mod SideRules

@@ -1,0 +1,34 @@
+-- The limits of a program.
+use Rattle.std.specs.Prelude.{ℕ}
+
+-- statements of a program
+abbrev pub most_statements : ℕ
+most_statements = 65535
+
+-- indices, arrays, scalars and procedures, each
+abbrev pub most_names : ℕ
+most_names = 256
+
+-- `do`, `pardo` and `if` within each other in one body
+abbrev pub most_nesting : ℕ
+most_nesting = 32
+
+-- calls within each other
+abbrev pub most_depth : ℕ
+most_depth = 16
+
+-- indices of a block or a declaration
+abbrev pub most_rank : ℕ
+most_rank = 6
+
+-- indices of a pardo
+abbrev pub most_pardo : ℕ
+most_pardo = 12
+
+-- bytes of a name
+abbrev pub most_name : ℕ
+most_name = 64
+
+-- bytes of a printed text
+abbrev pub most_text : ℕ
+most_text = 1024
