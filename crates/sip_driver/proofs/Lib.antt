@@ -1,1 +1,2 @@
+mod NumbersLemmas
 mod TopLemmas

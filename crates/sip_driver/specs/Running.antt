@@ -11,6 +11,7 @@ use Rattle.sial_syntax.specs.declared.operand.Operand.TheVariants as operand
 use Rattle.sial_syntax.specs.declared.operand.Right.TheVariants.{One, Two}
 use Rattle.sial_syntax.specs.declared.operand.Target.TheVariants as target
 use Rattle.sial_meaning.specs.Number.{plus}
+use Rattle.block_math.specs.Elements.{sums, dot_of}
 use Rattle.sip_driver.specs.First.{Path, spaces_of}
 
 -- the numbers of a run: those of indices and scalars, and the static blocks of each array
@@ -48,14 +49,6 @@ scalar_in m scalar = slice_index_or m.scalars scalar 0
 abbrev pub with_value : (index number : ℕ) → Numbers → Numbers
 with_value index number m = record m { values = slice_set m.values index number }
 
--- two lists added element by element
-abbrev pub added : List ℕ → List ℕ → List ℕ
-added xs ys = map (λ (p : ℕ × ℕ). plus p.0 p.1) (zip xs ys)
-
--- the sum of the products
-abbrev pub contracted : List ℕ → List ℕ → ℕ
-contracted xs ys = sum_by (λ (p : ℕ × ℕ). p.0 * p.1) (zip xs ys) % 2 ^ 64
-
 -- the line of a scalar
 abbrev pub line_of : Path → Numbers → ℕ → List ℕ
 line_of path m scalar = slice_index_or path.program.scalars scalar [] ++ (codes " " ++ decimal (scalar_in m scalar))
@@ -79,11 +72,11 @@ abbrev mutual
   pub ran_form : Path → Plain → Numbers → Numbers
   ran_form path (Do index body) m = with_value index 0 (through (segments_in path index) (λ k n. ran path body (with_value index k n)) m)
   ran_form path (Assign (target.Block t) Set (One (operand.Number n))) m = with_words path t (replicate (length (words_of path m t)) n) m
-  ran_form path (Assign (target.Block t) Add (One (operand.Block b))) m = with_words path t (added (words_of path m t) (words_of path m b)) m
+  ran_form path (Assign (target.Block t) Add (One (operand.Block b))) m = with_words path t (sums (words_of path m t) (words_of path m b)) m
   ran_form path (Assign (target.Scalar s) Set (One (operand.Number n))) m = with_scalar s n m
   ran_form path (Assign (target.Scalar s) Add (One (operand.Number n))) m = with_scalar s (plus (scalar_in m s) n) m
   ran_form path (Assign (target.Scalar s) Set (Two (operand.Block a) Times (operand.Block b))) m =
-      with_scalar s (contracted (words_of path m a) (words_of path m b)) m
+      with_scalar s (dot_of (words_of path m a) (words_of path m b)) m
   ran_form path _ m = m
 
   -- the numbers after some statements

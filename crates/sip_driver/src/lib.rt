@@ -3,6 +3,7 @@
 
 mod answer;
 mod first;
+mod numbers;
 mod perform;
 mod reader;
 mod run;
