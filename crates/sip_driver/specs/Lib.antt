@@ -4,3 +4,4 @@ pub mod Lines
 pub mod Built
 pub mod Profile
 pub mod Running
+pub mod Ran

@@ -2,12 +2,15 @@
 #![tactic(auto)]
 
 mod answer;
+mod blocks;
+mod fault;
 mod first;
 mod numbers;
 mod perform;
 mod reader;
 mod run;
 mod say;
+mod segments;
 mod status;
 mod top;
 mod words;

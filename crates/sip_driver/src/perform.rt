@@ -6,8 +6,9 @@ ghost use Rattle.sip_files.specs.declared.call.Call.TheVariants.{Load};
 ghost use Rattle.sip_driver.specs.Top.{Names, Loads, ForTexts, IsUnread, IsUnreadable, Prints, PrintsPart, PrintsSome, IsNotFirst, most_program, most_input};
 
 use crate::answer::Answer;
+use crate::fault::RunFault;
 use crate::reader::read_first;
-use crate::run::{RunFault, run};
+use crate::run::run;
 use sip_files::{Files, LoadFault, Sink};
 use std::alloc::Global;
 

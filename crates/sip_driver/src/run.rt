@@ -5,18 +5,10 @@ ghost use Rattle.sip_files.specs.Files.{Rose};
 ghost use Rattle.sip_files.specs.Sink.{Gains, GainsPart};
 ghost use Rattle.sip_driver.specs.First.{seen, IsPath, printed_text};
 
+use crate::fault::RunFault;
 use crate::first::First;
 use sip_files::Sink;
 use std::alloc::Global;
-
-/// Why a run didn't come to its end.
-#[derive(Clone, Copy, Debug, PartialEq, Eq)]
-pub enum RunFault {
-    /// The output took not all.
-    NotWritten,
-    /// No memory was found.
-    OutOfMemory,
-}
 
 /// Runs a program from its start, and writes each line as it is printed.
 pub fn run<K: Sink>(alloc: Global, first: &First, out: &mut K) -> Result<(), RunFault>

@@ -1,0 +1,102 @@
+//! Statements on blocks and scalars.
+
+ghost use Rattle.std.specs.Prelude.{◌≡◌, ◌+◌, ◌-◌, ◌<◌, ◌≤◌, length, replicate, slice_index_or, OnOk};
+ghost use Rattle.block_math.specs.Elements.{sums, dot_of};
+ghost use Rattle.sial_meaning.specs.Number.{plus};
+ghost use Rattle.sial_syntax.specs.Spaces.{first_of};
+ghost use Rattle.sip_driver.specs.First.{seen, spaces_of, IsPath};
+ghost use Rattle.sip_driver.specs.Ran.{IsHeld};
+ghost use Rattle.sip_driver.specs.Running.{only_index, number_in, words_of, with_words, with_scalar, scalar_in};
+
+use crate::first::First;
+use crate::numbers::Machine;
+use crate::segments::segments_of;
+use sial_syntax::BlockRef;
+use std::alloc::{AllocError, Global};
+
+// The number of a block within its array.
+fn number_of(first: &First, machine: &Machine, block: &BlockRef) -> usize
+    requires path { IsPath (seen first.now) }
+    requires held { IsHeld (seen first.now) machine.now block.now }
+    ensures { result ≡ number_in (seen first.now) machine.now block.now }
+{
+    let index = block.at.as_slice()[0];
+    (machine.value(index) - segments_of(first, index).first) as usize
+}
+
+// The elements of a block.
+fn words<'a>(first: &First, machine: &'a Machine, block: &BlockRef) -> &'a [u64]
+    requires path { IsPath (seen first.now) }
+    requires held { IsHeld (seen first.now) machine.now block.now }
+    ensures { result.now ≡ words_of (seen first.now) machine.now block.now }
+{
+    machine.block(block.array, number_of(first, machine, block))
+}
+
+/// `a(x) = N`
+pub fn fill(
+    alloc: Global,
+    first: &First,
+    machine: &mut Machine,
+    block: &BlockRef,
+    number: u64,
+) -> Result<(), AllocError>
+    requires path { IsPath (seen first.now) }
+    requires held { IsHeld (seen first.now) machine.old block.now }
+    ensures { OnOk result (machine.new ≡ with_words (seen first.now) block.now (replicate (length (words_of (seen first.now) machine.old block.now)) number) machine.old) }
+{
+    let count = words(first, machine, block).len();
+    let filled = vec![in alloc; number; count]?;
+    let at = number_of(first, machine, block);
+    machine.set_block(block.array, at, filled);
+    Ok(())
+}
+
+/// `a(x) += b(x)`
+pub fn add(
+    alloc: Global,
+    first: &First,
+    machine: &mut Machine,
+    block: &BlockRef,
+    other: &BlockRef,
+) -> Result<(), AllocError>
+    requires path { IsPath (seen first.now) }
+    requires held { IsHeld (seen first.now) machine.old block.now }
+    requires other { IsHeld (seen first.now) machine.old other.now }
+    requires len { length (words_of (seen first.now) machine.old block.now) ≡ length (words_of (seen first.now) machine.old other.now) }
+    ensures { OnOk result (machine.new ≡ with_words (seen first.now) block.now (sums (words_of (seen first.now) machine.old block.now) (words_of (seen first.now) machine.old other.now)) machine.old) }
+{
+    let mut summed = Vec::from_slice(alloc, words(first, machine, block))?;
+    block_math::add(summed.as_mut_slice(), words(first, machine, other));
+    let at = number_of(first, machine, block);
+    machine.set_block(block.array, at, summed);
+    Ok(())
+}
+
+/// `s = a(x) * b(x)`
+pub fn contract(
+    first: &First,
+    machine: &mut Machine,
+    scalar: u16,
+    left: &BlockRef,
+    right: &BlockRef,
+)
+    requires path { IsPath (seen first.now) }
+    requires scalar { scalar < length machine.old.scalars }
+    requires left { IsHeld (seen first.now) machine.old left.now }
+    requires right { IsHeld (seen first.now) machine.old right.now }
+    requires len { length (words_of (seen first.now) machine.old left.now) ≡ length (words_of (seen first.now) machine.old right.now) }
+    ensures { machine.new ≡ with_scalar scalar (dot_of (words_of (seen first.now) machine.old left.now) (words_of (seen first.now) machine.old right.now)) machine.old }
+{
+    let product = block_math::dot(words(first, machine, left), words(first, machine, right));
+    machine.set_scalar(scalar, product);
+}
+
+/// `s += N`
+pub fn increase(machine: &mut Machine, scalar: u16, number: u64)
+    requires { scalar < length machine.old.scalars }
+    ensures { machine.new ≡ with_scalar scalar (plus (scalar_in machine.old scalar) number) machine.old }
+{
+    let sum = machine.scalar(scalar).wrapping_add(number);
+    machine.set_scalar(scalar, sum);
+}
