@@ -1,2 +1,4 @@
+mod NumbersFrom
 mod NumbersLemmas
 mod TopLemmas
+mod WroteLemmas

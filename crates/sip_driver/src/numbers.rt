@@ -20,6 +20,17 @@ impl Model for Machine {
 }
 
 impl Machine {
+    /// The numbers of indices, scalars and blocks.
+    pub fn new(values: Vec<u32>, scalars: Vec<u64>, statics: Vec<Vec<Vec<u64>>>) -> Machine
+        ensures { result ≡ record { values = values.items; scalars = scalars.items; statics = map (λ a. map (λ b. b.items) a.items) statics.items } }
+    {
+        Machine {
+            values,
+            scalars,
+            statics,
+        }
+    }
+
     /// The number of a scalar.
     pub fn scalar(&self, scalar: u16) -> u64
         requires { scalar < length self.now.scalars }

@@ -1,6 +1,6 @@
 //! The segments that an index of the first profile runs over.
 
-ghost use Rattle.std.specs.Prelude.{◌≡◌, ◌+◌, ◌<◌, ◌≤◌, length};
+ghost use Rattle.std.specs.Prelude.{◌≡◌, ℕ, ◌+◌, ◌<◌, ◌≤◌, length};
 ghost use Rattle.sial_syntax.specs.Spaces.{first_of, count_of, span_first, span_count};
 ghost use Rattle.sip_driver.specs.First.{seen, spaces_of, from_to, IsPath};
 
@@ -20,7 +20,9 @@ pub fn segments_of(first: &First, index: u16) -> Segments
     requires within { index < length (seen first.now).program.indices }
     ensures first { result.first ≡ first_of (spaces_of (seen first.now)) index }
     ensures count { result.count ≡ count_of (spaces_of (seen first.now)) index }
-    ensures end { result.first + result.count ≤ 4097 }
+    ensures from { 1 ≤ result.first }
+    ensures end { result.first + result.count ≤ length (seen first.now).lengths + 1 }
+    ensures few { result.first + result.count ≤ 4097 }
 {
     match &first.program.indices[index as usize].range {
         Range::Segments {
@@ -38,7 +40,8 @@ fn between(lo: u64, hi: u64) -> Segments
     requires to { hi ≤ 4096 }
     ensures first { result.first ≡ span_first (from_to lo hi) }
     ensures count { result.count ≡ span_count (from_to lo hi) }
-    ensures end { result.first + result.count ≤ 4097 }
+    ensures from { 1 ≤ result.first }
+    ensures end { (most : ℕ) → hi ≤ most → result.first + result.count ≤ most + 1 }
 {
     if hi < lo {
         return Segments { first: 1, count: 0 };
