@@ -11,10 +11,11 @@ use Rattle.sial_syntax.specs.declared.operand.Slot.{Slot}
 use Rattle.sial_syntax.specs.declared.operand.Target.{Target}
 use Rattle.sial_syntax.specs.declared.program.Proc.{Proc}
 use Rattle.sial_syntax.specs.declared.program.Program.{Program}
+use Rattle.sial_syntax.specs.declared.statement.Form.{Form}
 use Rattle.sial_syntax.specs.declared.statement.Stmt.{Stmt}
 use Rattle.sial_syntax.specs.declared.statement.Form.TheOpen as form
 use Rattle.sial_syntax.specs.declared.statement.Form.TheOpen.{Form-F, Stmt-F}
-use Rattle.sial_syntax.specs.declared.statement.Form.TheFolds.{fold-Stmt}
+use Rattle.sial_syntax.specs.declared.statement.Form.TheFolds.{fold-Form, fold-Stmt}
 
 mutual
   -- statements in order, each with its text line
@@ -100,6 +101,10 @@ with_line stmt = (stmt.line, stmt.form)
 -- a statement of the code's tree
 abbrev pub plain_stmt : Stmt → ℕ × Plain
 plain_stmt = fold-Stmt Plain (ℕ × Plain) plain_layer with_line
+
+-- what a statement of the code's tree says
+abbrev pub plain_form : Form → Plain
+plain_form = fold-Form Plain (ℕ × Plain) plain_layer with_line
 
 -- a body of the code's tree
 abbrev pub block : List Stmt → Block

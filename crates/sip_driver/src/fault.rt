@@ -1,5 +1,11 @@
 //! Why a run ends early.
 
+ghost use Rattle.std.specs.Prelude.{◌≡◌};
+ghost use Rattle.sip_driver.specs.declared.fault.RunFault.TheVariants as run;
+
+use sip_files::Failed;
+use std::alloc::AllocError;
+
 /// Why a run didn't come to its end.
 #[derive(Clone, Copy, Debug, PartialEq, Eq)]
 pub enum RunFault {
@@ -7,4 +13,20 @@ pub enum RunFault {
     NotWritten,
     /// No memory was found.
     OutOfMemory,
+}
+
+impl From<AllocError> for RunFault {
+    ghost from_gives = { λ _ e. e ≡ run.OutOfMemory };
+
+    fn from(_: AllocError) -> Self {
+        RunFault::OutOfMemory
+    }
+}
+
+impl From<Failed> for RunFault {
+    ghost from_gives = { λ _ e. e ≡ run.NotWritten };
+
+    fn from(_: Failed) -> Self {
+        RunFault::NotWritten
+    }
 }

@@ -2,6 +2,7 @@
 #![tactic(auto)]
 
 mod answer;
+mod assign;
 mod blocks;
 mod fault;
 mod first;
@@ -13,6 +14,7 @@ mod run;
 mod say;
 mod segments;
 mod start;
+mod statements;
 mod status;
 mod top;
 mod words;
