@@ -1,4 +1,6 @@
+mod FitsLemmas
 mod NumbersFrom
 mod NumbersLemmas
+mod RanLemmas
 mod TopLemmas
 mod WroteLemmas

@@ -1,11 +1,11 @@
 -- What a run leaves of its output, and what it needs of its numbers.
-use Rattle.std.specs.Prelude.{◌≡◌, ℕ, ◌+◌, ◌-◌, ◌<◌, ◌≤◌, List, [], ◌∷◌, length, Option, Some, None, Result, OnOk, OnErr, IsErrOf, slice_index_or}
+use Rattle.std.specs.Prelude.{◌≡◌, ℕ, ◌+◌, ◌-◌, ◌<◌, ◌≤◌, List, [], ◌∷◌, ◌++◌, length, Option, Some, None, Result, Ok, OnOk, OnErr, IsErrOf, slice_index_or}
 use Rattle.sial_syntax.specs.Spaces.{first_of, count_of, among}
 use Rattle.sial_syntax.specs.declared.operand.BlockRef.{BlockRef}
 use Rattle.sip_files.specs.Files.{Rose}
 use Rattle.sip_files.specs.Kept.{Kept}
 use Rattle.sip_files.specs.Sink.{Gains, GainsPart}
-use Rattle.sip_driver.specs.First.{Path, spaces_of, dims_in}
+use Rattle.sip_driver.specs.First.{Path, spaces_of, dims_in, text_of}
 use Rattle.sip_driver.specs.Running.{Numbers, only_index, number_in, words_of}
 use Rattle.sip_driver.specs.declared.fault.RunFault.{RunFault}
 use Rattle.sip_driver.specs.declared.fault.RunFault.TheVariants.{NotWritten, OutOfMemory}
@@ -53,3 +53,9 @@ pub record IsHeld (path : Path) (m : Numbers) (block : BlockRef) : Type 0 where
   pub index : only_index block.at < length m.values
   pub declared : only_index block.at < length path.program.indices
   pub from : first_of (spaces_of path) (only_index block.at) ≤ slice_index_or m.values (only_index block.at) 0
+
+-- the text of the lines that came before the rest went out whole
+pub record RanSoFar (old new : Option (List ℕ)) (before now : ℕ) (was is : Kept) (all rest : List (List ℕ)) : Type 0 where
+  pub done : List (List ℕ)
+  pub split : all ≡ (done ++ rest)
+  pub ran : Ran old new before now was is (text_of done) (Ok tt)
