@@ -2,5 +2,6 @@ mod FitsLemmas
 mod NumbersFrom
 mod NumbersLemmas
 mod RanLemmas
+mod StatementsLemmas
 mod TopLemmas
 mod WroteLemmas

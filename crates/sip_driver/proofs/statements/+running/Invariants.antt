@@ -2,17 +2,15 @@ use Rattle.std.proofs.Common.{◌≡◌, ℕ, ◌+◌, ◌-◌, drop}
 use Rattle.sial_syntax.specs.Boxes.{numbers_from}
 use Rattle.sial_syntax.specs.Tree.{block, Do}
 use Rattle.sip_driver.specs.First.{seen, IsBody}
-use Rattle.sip_driver.specs.Ran.{RanSoFar, Fits, IsWithin}
+use Rattle.sip_driver.specs.Ran.{RanSoFar, Fits}
+use Rattle.sip_driver.proofs.StatementsLemmas.{Left}
 use Rattle.sip_driver.specs.Running.{Numbers, ran, ran_form, body_lines, form_lines, through, lines_through, with_value}
 use Rattle.sip_driver.proofs.statements.+running.Given as goal
 
 -- the numbers fit, the statements that are left give what all give, and their lines are left
 abbrev pub invariant-run_body-loop-stmt : goal.invariant-run_body-loop-stmt
 invariant-run_body-loop-stmt g l =
-    Fits (seen l.first) l.machine
-    × IsWithin (seen l.first) l.machine l.within
-    × IsBody (seen l.first).program l.within (block (drop l.stmt-index l.stmts))
-    × (ran (seen l.first) (block (drop l.stmt-index l.stmts)) l.machine ≡ ran (seen l.first) (block l.stmts) l.fn.machine)
+    Left (seen l.first) l.within (drop l.stmt-index l.stmts) (ran (seen l.first) (block l.stmts) l.fn.machine) l.machine
     × RanSoFar (g.K.Sink.written l.fn.out) (g.K.Sink.written l.out) (g.K.Sink.faults l.fn.out) (g.K.Sink.faults l.out) (g.K.Sink.kept l.fn.out) (g.K.Sink.kept l.out) (body_lines (seen l.first) (block l.stmts) l.fn.machine) (body_lines (seen l.first) (block (drop l.stmt-index l.stmts)) l.machine)
 
 -- the numbers fit, the turns that are left give what all give, and their lines are left
