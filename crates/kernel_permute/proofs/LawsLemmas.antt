@@ -1,19 +1,19 @@
 -- The laws of permuted, sliced and inserted blocks.
-use Rattle.std.proofs.Common.{◌≡◌, ℕ, zero, suc, ◌+◌, ◌-◌, ◌*◌, ◌<◌, ◌≤◌, Bool, true, false, cond, ◌&&◌, nat_eq, nat_le, nat_lt, List, [], ◌∷◌, length, get_or, map, ap, sym, ◌∙◌, refl, arith}
+use Rattle.std.proofs.Common.{◌≡◌, ℕ, zero, suc, ◌+◌, ◌-◌, ◌*◌, ◌<◌, ◌≤◌, true, cond, nat_eq, nat_le, nat_lt, List, [], ◌∷◌, length, get_or, map, ap, sym, ◌∙◌, refl, arith}
 use Rattle.std.specs.List.{AllByRecursion, IsDistinct}
 use Rattle.std.proofs.lemmas.Bool.{le-leb, lt-ltb}
 use Rattle.std.proofs.lemmas.List.{length-map}
 use Rattle.std.proofs.lemmas.List.Elements.{recursion_from_All}
-use Rattle.kernel_permute.specs.declared.how.How.{How}
 use Rattle.kernel_permute.specs.How.{combined}
-use Rattle.kernel_permute.specs.Inserting.{is_in_part, inserted, put, unshifted}
+use Rattle.kernel_permute.specs.Inserting.{is_in_part, put, unshifted}
 use Rattle.kernel_permute.specs.Laws.{InsertsEachPosition, InsertsNoOther, KeepsLength, PermutesEachPosition, SlicesEachPosition}
-use Rattle.kernel_permute.specs.Permuting.{IsOrder, permuted, picked, unpicked}
-use Rattle.kernel_permute.specs.Positions.{IsPosition, along, place, product, strides_of}
-use Rattle.kernel_permute.specs.Slicing.{IsPart, shifted, sliced}
+use Rattle.kernel_permute.specs.Permuting.{picked, unpicked}
+use Rattle.kernel_permute.specs.Positions.{IsPosition, along, place, strides_of}
+use Rattle.kernel_permute.specs.Slicing.{IsPart, shifted}
 use Rattle.kernel_permute.proofs.OrderLemmas.{AllBelow, along-picked, total, total-picked}
 use Rattle.kernel_permute.proofs.PositionLaws.{each_number-at, length-each_number}
 use Rattle.kernel_permute.proofs.ProductLemmas.{length-strides_of}
+use Rattle.kernel_permute.proofs.SlicingLemmas.{length-position}
 
 -- what is left of c in each place
 abbrev complements : ℕ → List ℕ → List ℕ
@@ -93,12 +93,6 @@ picked-leads ss xs (k ∷ ks) long below =
     let here : get_or (leads ss xs) k 0 ≡ get_or xs k 0 * get_or ss k 0 = get_or-leads ss xs k long below.0 in
     omega arith
 
-length-position : (ds xs : List ℕ) → IsPosition ds xs → length xs ≡ length ds
-length-position [] [] is = refl
-length-position [] (x ∷ xs) is = absurd is
-length-position (d ∷ ds) [] is = absurd is
-length-position (d ∷ ds) (x ∷ xs) is = ap (λ n. suc n) (length-position ds xs is.1)
-
 position-at : (ds xs : List ℕ) (k : ℕ) → IsPosition ds xs → k < length ds → get_or xs k 0 < get_or ds k 0
 position-at [] xs k is below = absurd (omega arith)
 position-at (d ∷ ds) [] k is below = absurd is
@@ -119,8 +113,8 @@ permutes_each_position how dims order from old x is long size inside =
     let in_ss : AllBelow (length ss) order = rw wide below in
     let in_leads : AllBelow (length (leads ss x)) order = rw (length-leads ss x x_long) in_ss in
     let same : place dims (unpicked (length order) order (picked order x)) ≡ place dims x =
-        sym (along-picked (length order) ss order (picked order x) wide below is.once) ∙ sym (picked-leads ss x order x_long in_ss)
-        ∙ total-picked_all order (leads ss x) in_leads is.once (sym wide ∙ sym (length-leads ss x x_long)) ∙ total-leads ss x in
+    sym (along-picked (length order) ss order (picked order x) wide below is.once) ∙ sym (picked-leads ss x order x_long in_ss)
+    ∙ total-picked_all order (leads ss x) in_leads is.once (sym wide ∙ sym (length-leads ss x x_long)) ∙ total-leads ss x in
     each_number-at (λ y number. combined how number (get_or from (place dims (unpicked (length order) order y)) 0)) (picked order dims) old (picked order x) size (picked-position order dims x inside in_dims)
     ∙ ap (λ p. combined how (get_or old (place (picked order dims) (picked order x)) 0) (get_or from p 0)) same
 

@@ -1,5 +1,5 @@
 -- What each result holds, position by position.
-use Rattle.std.specs.Prelude.{◌≡◌, ℕ, Bool, false, List, length, slice_index}
+use Rattle.std.specs.Prelude.{◌≡◌, ℕ, false, List, length, slice_index}
 use Rattle.kernel_permute.specs.declared.how.How.{How}
 use Rattle.kernel_permute.specs.How.{combined}
 use Rattle.kernel_permute.specs.Inserting.{is_in_part, inserted}
