@@ -6,3 +6,5 @@ pub mod PermutingLemmas
 pub mod SlicingLemmas
 pub mod InsertingLemmas
 pub mod PartsLemmas
+pub mod PositionLaws
+pub mod LawsLemmas

@@ -56,3 +56,10 @@ inserted_none how size from dims at old none long = sym (each_number-kept (put h
     outside : (p : List ℕ) (x : ℕ) (b : Bool) → is_in_part at size p ≡ b → cond b (combined how x (get_or from (place size (unshifted at p)) 0)) x ≡ x
     outside p x false is = refl
     outside p x true is = let within : place size (unshifted at p) < product size = place_within at size p is in absurd (omega arith)
+
+-- what is put in by the parts is what is put in by their starts, sizes and dimensions
+pub inserted_with : (how : How) (size from dims at old : List ℕ) (parts : List Part) → IsPart at size dims → parts ≡ parts_with at size dims → inserted how (sizes parts) from (dims_of parts) (starts parts) old ≡ inserted how size from dims at old
+inserted_with how size from dims at old parts is made = rw (made, starts-parts_with at size dims is, sizes-parts_with at size dims is, dims_of-parts_with at size dims is) refl
+
+pub part_with : (size dims at : List ℕ) (parts : List Part) → IsPart at size dims → parts ≡ parts_with at size dims → IsPart (starts parts) (sizes parts) (dims_of parts)
+part_with size dims at parts is made = rw (made, starts-parts_with at size dims is, sizes-parts_with at size dims is, dims_of-parts_with at size dims is) is

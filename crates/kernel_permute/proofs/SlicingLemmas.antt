@@ -95,9 +95,19 @@ sliced_none how dims at size from [] none = sym (zipped-nil (λ y x. combined ho
 sliced_none how dims at size from (x ∷ xs) none = absurd (omega arith)
 
 -- one more dimension leads no further than the part's place
-pub base_within : (ss at : List ℕ) (k base : ℕ) → k < length ss → k < length at → base + along (drop k ss) (drop k at) ≡ along ss at → base + get_or at k 0 * get_or ss k 0 ≤ along ss at
+base_within : (ss at : List ℕ) (k base : ℕ) → k < length ss → k < length at → base + along (drop k ss) (drop k at) ≡ along ss at → base + get_or at k 0 * get_or ss k 0 ≤ along ss at
 base_within ss at k base in_ss in_at before =
     let more : along (drop k ss) (drop k at) ≡ get_or at k 0 * get_or ss k 0 + along (drop (k + 1) ss) (drop (k + 1) at) = rw (drop_more ss k 0 in_ss, drop_more at k 0 in_at) refl in
+    omega arith
+
+-- so it leads into the block
+pub base_below : (dims ss at size : List ℕ) (k base : ℕ) → IsPart at size dims → 0 < product size → ss ≡ strides_of dims → k < length dims → base + along (drop k ss) (drop k at) ≡ along ss at → base + get_or at k 0 * get_or ss k 0 < product dims
+base_below dims ss at size k base part some apart below before =
+    let wide : length ss ≡ length dims = ap length apart ∙ length-strides_of dims in
+    let same : length at ≡ length dims = length-part_at at size dims part ∙ length-part_size at size dims part in
+    let within : base + get_or at k 0 * get_or ss k 0 ≤ along ss at = base_within ss at k base (omega arith) (omega arith) before in
+    let begins : along ss at ≡ place dims at = ap (λ r. along r at) apart in
+    let last : place dims at + reach (axes_with size (strides_of dims)) < product dims = part_reach at size dims part some in
     omega arith
 
 -- the part's place, once the loop is through

@@ -6,3 +6,4 @@ pub mod Inserting
 pub mod Gathering
 pub mod Strided
 pub mod Parts
+pub mod Laws

@@ -6,6 +6,7 @@ mod axis;
 mod gathering;
 mod how;
 mod inserting;
+pub mod laws;
 mod part;
 mod permuting;
 mod slicing;

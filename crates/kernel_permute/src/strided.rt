@@ -7,7 +7,7 @@ ghost use Rattle.kernel_permute.specs.Strided.{lengths, met, reach, strides};
 use crate::axis::Axis;
 use crate::how::How;
 
-// One row: each number of the target meets one of the source.
+/// One row: each number of the target meets one of the source.
 #[inline(always)]
 pub fn read_row(from: &[u64], base: usize, stride: usize, to: &mut [u64], how: How)
     requires within { base + (length to.old - 1) * stride < length from.now }

@@ -10,42 +10,30 @@ const NUMBERS: [u64; 36] = [
 #[test]
 fn a_block_of_two_rows_is_turned_cut_and_patched(rt: HostRuntime) {
     let block = [1, 2, 3, 4, 5, 6];
+    let (dims, at, size) = ([2, 3], [0, 1], [2, 2]);
     let mut turned = [0; 6];
-    permute(&block, &[2, 3], &[1, 0], &mut turned, How::Set);
+    permute(&block, &dims, &[1, 0], &mut turned, How::Set);
     assert_eq!(rt; turned, [1, 4, 2, 5, 3, 6]);
     let mut part = [0; 4];
-    slice_out(&block, &[2, 3], &[0, 1], &[2, 2], &mut part, How::Set);
+    slice_out(&block, &dims, &at, &size, &mut part, How::Set);
     assert_eq!(rt; part, [2, 3, 5, 6]);
     let mut patched = block;
-    put_in(
-        &[9, 9, 9, 9],
-        &[2, 2],
-        &mut patched,
-        &[2, 3],
-        &[0, 1],
-        How::Set,
-    );
+    put_in(&[9; 4], &size, &mut patched, &dims, &at, How::Set);
     assert_eq!(rt; patched, [1, 9, 9, 4, 9, 9]);
 }
 
 #[test]
 fn what_is_there_is_added_to_or_taken_from(rt: HostRuntime) {
     let block = [1, 2, 3, 4, 5, 6];
+    let (dims, at, size) = ([2, 3], [0, 1], [2, 2]);
     let mut turned = [10, 20, 30, 40, 50, 60];
-    permute(&block, &[2, 3], &[1, 0], &mut turned, How::Add);
+    permute(&block, &dims, &[1, 0], &mut turned, How::Add);
     assert_eq!(rt; turned, [11, 24, 32, 45, 53, 66]);
-    let mut part = [3, 3, 3, 3];
-    slice_out(&block, &[2, 3], &[0, 1], &[2, 2], &mut part, How::Subtract);
+    let mut part = [3; 4];
+    slice_out(&block, &dims, &at, &size, &mut part, How::Subtract);
     assert_eq!(rt; part, [1, 0, u64::MAX - 1, u64::MAX - 2]);
     let mut patched = block;
-    put_in(
-        &[7, 8, 9, 10],
-        &[2, 2],
-        &mut patched,
-        &[2, 3],
-        &[0, 1],
-        How::Add,
-    );
+    put_in(&[7, 8, 9, 10], &size, &mut patched, &dims, &at, How::Add);
     assert_eq!(rt; patched, [1, 9, 11, 4, 14, 16]);
 }
 
@@ -59,34 +47,16 @@ fn numbers_are_gathered_in_the_order_of_the_places(rt: HostRuntime) {
 #[test]
 fn each_rank_is_permuted(rt: HostRuntime) {
     let mut to = [0; 4];
-    permute_any(
-        1,
-        &NUMBERS[..4],
-        &[4, 0, 0, 0, 0, 0],
-        &[0, 0, 0, 0, 0, 0],
-        &mut to,
-        How::Set,
-    );
+    let (dims, order) = ([4, 0, 0, 0, 0, 0], [0, 0, 0, 0, 0, 0]);
+    permute_any(1, &NUMBERS[..4], &dims, &order, &mut to, How::Set);
     assert_eq!(rt; to, [1, 2, 3, 4]);
     let mut to = [0; 6];
-    permute_any(
-        2,
-        &NUMBERS[..6],
-        &[3, 2, 0, 0, 0, 0],
-        &[1, 0, 0, 0, 0, 0],
-        &mut to,
-        How::Set,
-    );
+    let (dims, order) = ([3, 2, 0, 0, 0, 0], [1, 0, 0, 0, 0, 0]);
+    permute_any(2, &NUMBERS[..6], &dims, &order, &mut to, How::Set);
     assert_eq!(rt; to, [1, 3, 5, 2, 4, 6]);
     let mut to = [0; 24];
-    permute_any(
-        3,
-        &NUMBERS[..24],
-        &[2, 3, 4, 0, 0, 0],
-        &[1, 2, 0, 0, 0, 0],
-        &mut to,
-        How::Set,
-    );
+    let (dims, order) = ([2, 3, 4, 0, 0, 0], [1, 2, 0, 0, 0, 0]);
+    permute_any(3, &NUMBERS[..24], &dims, &order, &mut to, How::Set);
     assert_eq!(rt;
         to,
         [
@@ -94,14 +64,8 @@ fn each_rank_is_permuted(rt: HostRuntime) {
         ]
     );
     let mut to = [0; 24];
-    permute_any(
-        4,
-        &NUMBERS[..24],
-        &[3, 2, 1, 4, 0, 0],
-        &[2, 0, 3, 1, 0, 0],
-        &mut to,
-        How::Set,
-    );
+    let (dims, order) = ([3, 2, 1, 4, 0, 0], [2, 0, 3, 1, 0, 0]);
+    permute_any(4, &NUMBERS[..24], &dims, &order, &mut to, How::Set);
     assert_eq!(rt;
         to,
         [
@@ -109,14 +73,8 @@ fn each_rank_is_permuted(rt: HostRuntime) {
         ]
     );
     let mut to = [0; 36];
-    permute_any(
-        5,
-        &NUMBERS[..36],
-        &[2, 1, 3, 2, 3, 0],
-        &[4, 0, 3, 1, 2, 0],
-        &mut to,
-        How::Set,
-    );
+    let (dims, order) = ([2, 1, 3, 2, 3, 0], [4, 0, 3, 1, 2, 0]);
+    permute_any(5, &NUMBERS[..36], &dims, &order, &mut to, How::Set);
     assert_eq!(rt;
         to,
         [
@@ -125,14 +83,8 @@ fn each_rank_is_permuted(rt: HostRuntime) {
         ]
     );
     let mut to = [0; 36];
-    permute_any(
-        6,
-        &NUMBERS[..36],
-        &[2, 1, 3, 2, 1, 3],
-        &[2, 0, 5, 1, 3, 4],
-        &mut to,
-        How::Set,
-    );
+    let (dims, order) = ([2, 1, 3, 2, 1, 3], [2, 0, 5, 1, 3, 4]);
+    permute_any(6, &NUMBERS[..36], &dims, &order, &mut to, How::Set);
     assert_eq!(rt;
         to,
         [
@@ -145,110 +97,47 @@ fn each_rank_is_permuted(rt: HostRuntime) {
 #[test]
 fn each_rank_is_cut(rt: HostRuntime) {
     let mut to = [0; 3];
-    slice_out_any(
-        1,
-        &NUMBERS[..5],
-        &[5, 0, 0, 0, 0, 0],
-        &[1, 0, 0, 0, 0, 0],
-        &[3, 0, 0, 0, 0, 0],
-        &mut to,
-        How::Set,
-    );
+    let (dims, at, size) = ([5, 0, 0, 0, 0, 0], [1, 0, 0, 0, 0, 0], [3, 0, 0, 0, 0, 0]);
+    slice_out_any(1, &NUMBERS[..5], &dims, &at, &size, &mut to, How::Set);
     assert_eq!(rt; to, [2, 3, 4]);
     let mut to = [0; 2];
-    slice_out_any(
-        2,
-        &NUMBERS[..6],
-        &[3, 2, 0, 0, 0, 0],
-        &[1, 0, 0, 0, 0, 0],
-        &[2, 1, 0, 0, 0, 0],
-        &mut to,
-        How::Set,
-    );
+    let (dims, at, size) = ([3, 2, 0, 0, 0, 0], [1, 0, 0, 0, 0, 0], [2, 1, 0, 0, 0, 0]);
+    slice_out_any(2, &NUMBERS[..6], &dims, &at, &size, &mut to, How::Set);
     assert_eq!(rt; to, [3, 5]);
     let mut to = [0; 4];
-    slice_out_any(
-        3,
-        &NUMBERS[..24],
-        &[2, 3, 4, 0, 0, 0],
-        &[1, 1, 2, 0, 0, 0],
-        &[1, 2, 2, 0, 0, 0],
-        &mut to,
-        How::Set,
-    );
+    let (dims, at, size) = ([2, 3, 4, 0, 0, 0], [1, 1, 2, 0, 0, 0], [1, 2, 2, 0, 0, 0]);
+    slice_out_any(3, &NUMBERS[..24], &dims, &at, &size, &mut to, How::Set);
     assert_eq!(rt; to, [19, 20, 23, 24]);
     let mut to = [0; 12];
-    slice_out_any(
-        4,
-        &NUMBERS[..24],
-        &[3, 2, 1, 4, 0, 0],
-        &[1, 0, 0, 1, 0, 0],
-        &[2, 2, 1, 3, 0, 0],
-        &mut to,
-        How::Set,
-    );
+    let (dims, at, size) = ([3, 2, 1, 4, 0, 0], [1, 0, 0, 1, 0, 0], [2, 2, 1, 3, 0, 0]);
+    slice_out_any(4, &NUMBERS[..24], &dims, &at, &size, &mut to, How::Set);
     assert_eq!(rt; to, [10, 11, 12, 14, 15, 16, 18, 19, 20, 22, 23, 24]);
     let mut to = [0; 12];
-    slice_out_any(
-        5,
-        &NUMBERS[..36],
-        &[2, 1, 3, 2, 3, 0],
-        &[0, 0, 1, 1, 0, 0],
-        &[2, 1, 2, 1, 3, 0],
-        &mut to,
-        How::Set,
-    );
+    let (dims, at, size) = ([2, 1, 3, 2, 3, 0], [0, 0, 1, 1, 0, 0], [2, 1, 2, 1, 3, 0]);
+    slice_out_any(5, &NUMBERS[..36], &dims, &at, &size, &mut to, How::Set);
     assert_eq!(rt; to, [10, 11, 12, 16, 17, 18, 28, 29, 30, 34, 35, 36]);
     let mut to = [0; 8];
-    slice_out_any(
-        6,
-        &NUMBERS[..36],
-        &[2, 1, 3, 2, 1, 3],
-        &[1, 0, 0, 0, 0, 1],
-        &[1, 1, 2, 2, 1, 2],
-        &mut to,
-        How::Set,
-    );
+    let (dims, at, size) = ([2, 1, 3, 2, 1, 3], [1, 0, 0, 0, 0, 1], [1, 1, 2, 2, 1, 2]);
+    slice_out_any(6, &NUMBERS[..36], &dims, &at, &size, &mut to, How::Set);
     assert_eq!(rt; to, [20, 21, 23, 24, 26, 27, 29, 30]);
 }
 
 #[test]
 fn each_rank_is_patched(rt: HostRuntime) {
     let mut to = [101, 102, 103, 104, 105];
-    put_in_any(
-        1,
-        &NUMBERS[..3],
-        &[3, 0, 0, 0, 0, 0],
-        &mut to,
-        &[5, 0, 0, 0, 0, 0],
-        &[1, 0, 0, 0, 0, 0],
-        How::Set,
-    );
+    let (dims, at, size) = ([5, 0, 0, 0, 0, 0], [1, 0, 0, 0, 0, 0], [3, 0, 0, 0, 0, 0]);
+    put_in_any(1, &NUMBERS[..3], &size, &mut to, &dims, &at, How::Set);
     assert_eq!(rt; to, [101, 1, 2, 3, 105]);
     let mut to = [101, 102, 103, 104, 105, 106];
-    put_in_any(
-        2,
-        &NUMBERS[..2],
-        &[2, 1, 0, 0, 0, 0],
-        &mut to,
-        &[3, 2, 0, 0, 0, 0],
-        &[1, 0, 0, 0, 0, 0],
-        How::Set,
-    );
+    let (dims, at, size) = ([3, 2, 0, 0, 0, 0], [1, 0, 0, 0, 0, 0], [2, 1, 0, 0, 0, 0]);
+    put_in_any(2, &NUMBERS[..2], &size, &mut to, &dims, &at, How::Set);
     assert_eq!(rt; to, [101, 102, 1, 104, 2, 106]);
     let mut to = [
         101, 102, 103, 104, 105, 106, 107, 108, 109, 110, 111, 112, 113, 114, 115, 116, 117, 118,
         119, 120, 121, 122, 123, 124,
     ];
-    put_in_any(
-        3,
-        &NUMBERS[..4],
-        &[1, 2, 2, 0, 0, 0],
-        &mut to,
-        &[2, 3, 4, 0, 0, 0],
-        &[1, 1, 2, 0, 0, 0],
-        How::Set,
-    );
+    let (dims, at, size) = ([2, 3, 4, 0, 0, 0], [1, 1, 2, 0, 0, 0], [1, 2, 2, 0, 0, 0]);
+    put_in_any(3, &NUMBERS[..4], &size, &mut to, &dims, &at, How::Set);
     assert_eq!(rt;
         to,
         [
@@ -260,15 +149,8 @@ fn each_rank_is_patched(rt: HostRuntime) {
         101, 102, 103, 104, 105, 106, 107, 108, 109, 110, 111, 112, 113, 114, 115, 116, 117, 118,
         119, 120, 121, 122, 123, 124,
     ];
-    put_in_any(
-        4,
-        &NUMBERS[..12],
-        &[2, 2, 1, 3, 0, 0],
-        &mut to,
-        &[3, 2, 1, 4, 0, 0],
-        &[1, 0, 0, 1, 0, 0],
-        How::Set,
-    );
+    let (dims, at, size) = ([3, 2, 1, 4, 0, 0], [1, 0, 0, 1, 0, 0], [2, 2, 1, 3, 0, 0]);
+    put_in_any(4, &NUMBERS[..12], &size, &mut to, &dims, &at, How::Set);
     assert_eq!(rt;
         to,
         [
@@ -280,15 +162,8 @@ fn each_rank_is_patched(rt: HostRuntime) {
         101, 102, 103, 104, 105, 106, 107, 108, 109, 110, 111, 112, 113, 114, 115, 116, 117, 118,
         119, 120, 121, 122, 123, 124, 125, 126, 127, 128, 129, 130, 131, 132, 133, 134, 135, 136,
     ];
-    put_in_any(
-        5,
-        &NUMBERS[..12],
-        &[2, 1, 2, 1, 3, 0],
-        &mut to,
-        &[2, 1, 3, 2, 3, 0],
-        &[0, 0, 1, 1, 0, 0],
-        How::Set,
-    );
+    let (dims, at, size) = ([2, 1, 3, 2, 3, 0], [0, 0, 1, 1, 0, 0], [2, 1, 2, 1, 3, 0]);
+    put_in_any(5, &NUMBERS[..12], &size, &mut to, &dims, &at, How::Set);
     assert_eq!(rt;
         to,
         [
@@ -300,15 +175,8 @@ fn each_rank_is_patched(rt: HostRuntime) {
         101, 102, 103, 104, 105, 106, 107, 108, 109, 110, 111, 112, 113, 114, 115, 116, 117, 118,
         119, 120, 121, 122, 123, 124, 125, 126, 127, 128, 129, 130, 131, 132, 133, 134, 135, 136,
     ];
-    put_in_any(
-        6,
-        &NUMBERS[..8],
-        &[1, 1, 2, 2, 1, 2],
-        &mut to,
-        &[2, 1, 3, 2, 1, 3],
-        &[1, 0, 0, 0, 0, 1],
-        How::Set,
-    );
+    let (dims, at, size) = ([2, 1, 3, 2, 1, 3], [1, 0, 0, 0, 0, 1], [1, 1, 2, 2, 1, 2]);
+    put_in_any(6, &NUMBERS[..8], &size, &mut to, &dims, &at, How::Set);
     assert_eq!(rt;
         to,
         [

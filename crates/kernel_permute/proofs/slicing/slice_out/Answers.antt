@@ -1,8 +1,8 @@
-use Rattle.std.proofs.Common.{◌≡◌, ◌<◌, ◌≤◌, ◌+◌, ◌*◌, ◌^◌, ◌∙◌, ap, get_or, length, arith, rules}
+use Rattle.std.proofs.Common.{◌≡◌, ◌<◌, ◌+◌, ◌*◌, ◌^◌, ◌∙◌, ap, get_or, length, arith, rules}
 use Rattle.kernel_permute.specs.Positions.{product, strides_of, along, place}
 use Rattle.kernel_permute.specs.Strided.{reach}
 use Rattle.kernel_permute.proofs.ProductLemmas.{length-strides_of}
-use Rattle.kernel_permute.proofs.SlicingLemmas.{axes_with, axes_with_done, base_within, base_done, lengths-axes_with, part_reach, positive_from_part, sliced_is, sliced_none}
+use Rattle.kernel_permute.proofs.SlicingLemmas.{axes_with, axes_with_done, base_below, base_done, lengths-axes_with, part_reach, positive_from_part, sliced_is, sliced_none}
 use Rattle.kernel_permute.proofs.slicing.slice_out.Goals as goal
 
 pub returns-then-is_empty : goal.returns-then-is_empty
@@ -23,20 +23,14 @@ pub overflow_mul-base : goal.overflow_mul-base
 overflow_mul-base g c =
     let some : 0 < length c.args.to.now = grind arith in
     let fits : length c.args.from.now < 2 ^ 64 = search rules in
-    let wide : length c.strides-apart.result ≡ length c.args.dims.now = ap length c.strides-apart.ensures.value ∙ length-strides_of c.args.dims.now in
-    let within : c.loop-k.base + get_or c.args.at.now c.loop-k.k 0 * get_or c.strides-apart.result c.loop-k.k 0 ≤ along c.strides-apart.result c.args.at.now = base_within c.strides-apart.result c.args.at.now c.loop-k.k c.loop-k.base (omega arith) (omega arith) c.loop-k.invariant.begins in
-    let begins : along c.strides-apart.result c.args.at.now ≡ place c.args.dims.now c.args.at.now = ap (λ ss. along ss c.args.at.now) c.strides-apart.ensures.value in
-    let last : place c.args.dims.now c.args.at.now + reach (axes_with c.args.size.now (strides_of c.args.dims.now)) < product c.args.dims.now = part_reach c.args.at.now c.args.size.now c.args.dims.now c.requires.part (omega arith) in
+    let below : c.loop-k.base + get_or c.args.at.now c.loop-k.k 0 * get_or c.strides-apart.result c.loop-k.k 0 < product c.args.dims.now = base_below c.args.dims.now c.strides-apart.result c.args.at.now c.args.size.now c.loop-k.k c.loop-k.base c.requires.part (omega arith) c.strides-apart.ensures.value (omega arith) c.loop-k.invariant.begins in
     omega arith
 
 pub overflow_add-base : goal.overflow_add-base
 overflow_add-base g c =
     let some : 0 < length c.args.to.now = grind arith in
     let fits : length c.args.from.now < 2 ^ 64 = search rules in
-    let wide : length c.strides-apart.result ≡ length c.args.dims.now = ap length c.strides-apart.ensures.value ∙ length-strides_of c.args.dims.now in
-    let within : c.loop-k.base + get_or c.args.at.now c.loop-k.k 0 * get_or c.strides-apart.result c.loop-k.k 0 ≤ along c.strides-apart.result c.args.at.now = base_within c.strides-apart.result c.args.at.now c.loop-k.k c.loop-k.base (omega arith) (omega arith) c.loop-k.invariant.begins in
-    let begins : along c.strides-apart.result c.args.at.now ≡ place c.args.dims.now c.args.at.now = ap (λ ss. along ss c.args.at.now) c.strides-apart.ensures.value in
-    let last : place c.args.dims.now c.args.at.now + reach (axes_with c.args.size.now (strides_of c.args.dims.now)) < product c.args.dims.now = part_reach c.args.at.now c.args.size.now c.args.dims.now c.requires.part (omega arith) in
+    let below : c.loop-k.base + get_or c.args.at.now c.loop-k.k 0 * get_or c.strides-apart.result c.loop-k.k 0 < product c.args.dims.now = base_below c.args.dims.now c.strides-apart.result c.args.at.now c.args.size.now c.loop-k.k c.loop-k.base c.requires.part (omega arith) c.strides-apart.ensures.value (omega arith) c.loop-k.invariant.begins in
     omega arith
 
 pub read-requires-clause-same_length : goal.read-requires-clause-same_length
