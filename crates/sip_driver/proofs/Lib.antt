@@ -5,3 +5,4 @@ mod RanLemmas
 mod StatementsLemmas
 mod TopLemmas
 mod WroteLemmas
+mod ReadingLemmas

@@ -5,3 +5,5 @@ pub mod Built
 pub mod Profile
 pub mod Running
 pub mod Ran
+pub mod Reading
+pub mod LineSeen

@@ -4,9 +4,13 @@
 mod answer;
 mod assign;
 mod blocks;
+mod cut;
 mod fault;
 mod first;
+mod line;
+mod names;
 mod numbers;
+mod numerals;
 mod perform;
 mod print;
 mod reader;
