@@ -6,3 +6,4 @@ mod StatementsLemmas
 mod TopLemmas
 mod WroteLemmas
 mod ReadingLemmas
+mod NumeralLemmas

@@ -8,7 +8,7 @@ ghost use Rattle.sip_driver.specs.Reading as spec;
 
 use crate::cut::{marks_in, word_at, words_in};
 use crate::names::is_name;
-use crate::numerals::number_in;
+use crate::numerals::is_numeral;
 use std::alloc::{AllocError, Global};
 
 /// What one line says.
@@ -283,13 +283,6 @@ impl<'a> Line<'a> {
             Line::Tail { name } => joined(alloc, &[b"endsial ".as_slice(), name]),
         }
     }
-}
-
-// Whether digits spell a number that fits 64 bits.
-fn is_numeral(digits: &[u8]) -> bool
-    ensures { result ≡ lines.is_numeral digits.now }
-{
-    number_in(digits).is_some()
 }
 
 // Texts, one behind the other.
