@@ -7,3 +7,4 @@ mod TopLemmas
 mod WroteLemmas
 mod ReadingLemmas
 mod NumeralLemmas
+mod PlaceLemmas

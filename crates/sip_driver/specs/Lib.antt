@@ -7,3 +7,6 @@ pub mod Running
 pub mod Ran
 pub mod Reading
 pub mod LineSeen
+pub mod BuildingSeen
+pub mod Declaring
+pub mod Stating

@@ -4,10 +4,14 @@
 mod answer;
 mod assign;
 mod blocks;
+mod building;
 mod cut;
+mod declarations;
 mod fault;
 mod first;
 mod line;
+mod lines;
+mod loops;
 mod names;
 mod numbers;
 mod numerals;
