@@ -8,3 +8,6 @@ mod WroteLemmas
 mod ReadingLemmas
 mod NumeralLemmas
 mod PlaceLemmas
+mod FewLemmas
+mod SoundLemmas
+mod FurtherLemmas

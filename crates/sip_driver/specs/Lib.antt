@@ -10,3 +10,4 @@ pub mod LineSeen
 pub mod BuildingSeen
 pub mod Declaring
 pub mod Stating
+pub mod InputSeen

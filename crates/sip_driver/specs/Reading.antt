@@ -1,9 +1,16 @@
 -- How texts are read: step by step, each step exact.
-use Rattle.std.specs.Prelude.{ℕ, ◌+◌, ◌-◌, ◌*◌, ◌^◌, List, [], ◌∷◌, map, filter, length, Bool, true, false, ◌==◌, ◌&&◌, not, nat_lt, nat_le, codes, Option, Some, None, if◌then◌else◌, slice_index_or, option_and_then}
-use Rattle.std.specs.List.{slice_split}
+use Rattle.std.specs.Prelude.{ℕ, ◌+◌, ◌-◌, ◌*◌, ◌^◌, List, [], ◌∷◌, ◌++◌, filter, length, take, drop, Bool, true, false, ◌==◌, ◌&&◌, not, nat_lt, nat_le, codes, Option, Some, None, if◌then◌else◌, slice_index_or, option_and_then}
+use Rattle.std.specs.List.{slice_split, list_all}
 use Rattle.std.specs.Str.{bytes_eq}
 use Rattle.sial_syntax.specs.Names.{is_name_byte, is_digit}
-use Rattle.sip_driver.specs.Built.{Building, one_more, only_if}
+use Rattle.sial_syntax.specs.Tree.{Tree}
+use Rattle.sial_syntax.specs.declared.index.Bound.TheVariants.{Number}
+use Rattle.sial_syntax.specs.declared.index.IndexDecl.{IndexDecl}
+use Rattle.sial_syntax.specs.declared.index.Kind.TheVariants.{Ao}
+use Rattle.sial_syntax.specs.declared.index.Range.{Range}
+use Rattle.sial_syntax.specs.declared.index.Range.TheVariants.{Segments}
+use Rattle.sip_driver.specs.Built.{Building, begun, one_more, ended, only_if}
+use Rattle.sip_driver.specs.First.{Path}
 use Rattle.sip_driver.specs.Lines.{Line, Head, Index, Array, Scalar, Loop, LoopEnd, Fill, AddBlock, SetScalar, AddNumber, Contract, Print, Tail, spelled, is_sound, has_any}
 
 -- a number with one more digit, where that fits 64 bits
@@ -96,3 +103,74 @@ with_text b text = option_and_then (one_more b) (line_of text)
 abbrev pub with_texts : List (List ℕ) → Building → Option Building
 with_texts [] b = Some b
 with_texts (x ∷ xs) b = option_and_then (with_texts xs) (with_text b x)
+
+-- the program that a first line begins
+abbrev pub begun_by : Line → Option Building
+begun_by (Head name) = Some (begun name)
+begun_by _ = None
+
+-- the tree that a last line ends
+abbrev pub ended_by : Building → Line → Option Tree
+ended_by b (Tail name) = ended b name
+ended_by b _ = None
+
+-- the tree of a program with further lines, the last of them its end
+abbrev pub tree_from : Building → List (List ℕ) → Option Tree
+tree_from b [] = None
+tree_from b (x ∷ []) = option_and_then (ended_by b) (line_of x)
+tree_from b (x ∷ y ∷ more) = option_and_then (λ c. tree_from c (y ∷ more)) (with_text b x)
+
+-- the tree that lines make
+abbrev pub tree_of_lines : List (List ℕ) → Option Tree
+tree_of_lines [] = None
+tree_of_lines (x ∷ xs) = option_and_then (λ b. tree_from b xs) (option_and_then begun_by (line_of x))
+
+-- the tree of a text
+abbrev pub tree_in : (text : List ℕ) → Option Tree
+tree_in text = tree_of_lines (lines_in text)
+
+-- the length of a segment that digits spell
+abbrev pub length_in : (digits : List ℕ) → Option ℕ
+length_in digits = option_and_then (λ n. only_if (nat_le 1 n && nat_le n 1024) n) (number_in digits)
+
+-- lengths and further ones
+abbrev pub lengths_from : (before : List ℕ) → List (List ℕ) → Option (List ℕ)
+lengths_from before [] = Some before
+lengths_from before (x ∷ xs) = option_and_then (λ n. lengths_from (before ++ n ∷ []) xs) (length_in x)
+
+-- the lengths that words are, the first of them empty
+abbrev pub lengths_of_words : List (List ℕ) → Option (List ℕ)
+lengths_of_words [] = None
+lengths_of_words ([] ∷ numerals) = if nat_lt 0 (length numerals) && nat_le (length numerals) 4096 then lengths_from [] numerals else None
+lengths_of_words ((b ∷ bs) ∷ numerals) = None
+
+-- the lengths of an input's line
+abbrev pub lengths_of_line : (line : List ℕ) → Option (List ℕ)
+lengths_of_line line =
+    if bytes_eq (take 11 line) (codes "segments ao") then lengths_of_words (slice_split (λ b. b == 32) (drop 11 line)) else None
+
+-- the lengths of an input's only line
+abbrev pub lengths_of_lines : List (List ℕ) → Option (List ℕ)
+lengths_of_lines [] = None
+lengths_of_lines (line ∷ []) = lengths_of_line line
+lengths_of_lines (line ∷ other ∷ more) = None
+
+-- the lengths of an input's text
+abbrev pub lengths_in : (text : List ℕ) → Option (List ℕ)
+lengths_in text = lengths_of_lines (lines_in text)
+
+-- whether a range begins at 1 or later and ends at a segment that there is
+abbrev pub is_range : (segments : ℕ) → Range → Bool
+is_range segments (Segments Ao (Number lo) (Number hi)) = nat_le 1 lo && nat_le hi segments
+is_range segments _ = false
+
+-- whether all indices have such ranges
+abbrev pub are_ranges : (segments : ℕ) → List IndexDecl → Bool
+are_ranges segments indices = list_all (λ (i : IndexDecl). is_range segments i.range) indices
+
+-- the program that two texts are
+abbrev pub first_in : (program input : List ℕ) → Option Path
+first_in program input =
+    option_and_then
+    (λ t. option_and_then (λ lengths. only_if (are_ranges (length lengths) t.indices) (record { program = t; lengths = lengths })) (lengths_in input))
+    (tree_in program)

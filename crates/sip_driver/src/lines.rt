@@ -3,7 +3,7 @@
 ghost use Rattle.std.specs.Prelude.{◌≡◌, true, IfOk};
 ghost use Rattle.sip_driver.specs.Built as built;
 ghost use Rattle.sip_driver.specs.BuildingSeen.{building_seen, IsFew, Steps};
-ghost use Rattle.sip_driver.specs.Lines.{is_sound, Print};
+ghost use Rattle.sip_driver.specs.Lines.{is_sound, is_numeral, Fill, AddBlock, Contract, Print};
 ghost use Rattle.sip_driver.specs.LineSeen.{line_seen};
 ghost use Rattle.sip_driver.specs.Stating as spec;
 
@@ -18,7 +18,7 @@ impl Building {
     pub fn add(&mut self, alloc: Global, line: Line<'_>) -> Result<bool, AllocError>
         requires few { IsFew (building_seen self.old) }
         requires sound { is_sound (line_seen line) ≡ true }
-        ensures { IfOk result (λ done. Steps done (built.one_more (building_seen self.old) (line_seen line)) (building_seen self.new)) }
+        ensures { IfOk result (λ done. Steps done (built.one_more (building_seen self.old) (line_seen line.entry)) (building_seen self.new)) }
     {
         match line {
             Line::Index { name, lo, hi } => {
@@ -32,7 +32,7 @@ impl Building {
                 array,
                 index,
                 number,
-            } => self.fill(alloc, array, index, value_of(number)),
+            } => self.fill(alloc, array, index, number),
             Line::AddBlock {
                 array,
                 index,
@@ -61,10 +61,11 @@ impl Building {
         alloc: Global,
         array: &[u8],
         index: &[u8],
-        number: u64,
+        number: &[u8],
     ) -> Result<bool, AllocError>
-        requires { IsFew (building_seen self.old) }
-        ensures { IfOk result (λ done. Steps done (spec.with_fill (building_seen self.old) array.now index.now number) (building_seen self.new)) }
+        requires few { IsFew (building_seen self.old) }
+        requires sound { is_numeral number.now ≡ true }
+        ensures { IfOk result (λ done. Steps done (built.one_more (building_seen self.old) (Fill array.now index.now number.now)) (building_seen self.new)) }
     {
         let Some(target) = self.block_named(alloc, array, index)? else {
             return Ok(false);
@@ -72,7 +73,7 @@ impl Building {
         self.state(Form::Assign {
             target: Target::Block(target),
             op: Op::Set,
-            right: Right::One(Operand::Number(number)),
+            right: Right::One(Operand::Number(value_of(number))),
         })?;
         Ok(true)
     }
@@ -86,7 +87,7 @@ impl Building {
         other: &[u8],
     ) -> Result<bool, AllocError>
         requires { IsFew (building_seen self.old) }
-        ensures { IfOk result (λ done. Steps done (spec.with_block (building_seen self.old) array.now index.now other.now) (building_seen self.new)) }
+        ensures { IfOk result (λ done. Steps done (built.one_more (building_seen self.old) (AddBlock array.now index.now other.now)) (building_seen self.new)) }
     {
         let Some(target) = self.block_named(alloc, array, index)? else {
             return Ok(false);
@@ -128,7 +129,7 @@ impl Building {
         index: &[u8],
     ) -> Result<bool, AllocError>
         requires { IsFew (building_seen self.old) }
-        ensures { IfOk result (λ done. Steps done (spec.with_contraction (building_seen self.old) scalar.now left.now right.now index.now) (building_seen self.new)) }
+        ensures { IfOk result (λ done. Steps done (built.one_more (building_seen self.old) (Contract scalar.now left.now right.now index.now)) (building_seen self.new)) }
     {
         let Some(scalar) = self.scalar_named(scalar) else {
             return Ok(false);

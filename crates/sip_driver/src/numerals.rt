@@ -21,8 +21,8 @@ pub fn value_of(digits: &[u8]) -> u64
     number_in(digits).unwrap_or(0)
 }
 
-// The number that digits spell, if they are digits and it fits 64 bits.
-fn number_in(digits: &[u8]) -> Option<u64>
+/// The number that digits spell, if they are digits and it fits 64 bits.
+pub fn number_in(digits: &[u8]) -> Option<u64>
     ensures { result ≡ spec.number_in digits.now }
 {
     if digits.is_empty() {
