@@ -11,3 +11,8 @@ mod PlaceLemmas
 mod FewLemmas
 mod SoundLemmas
 mod FurtherLemmas
+mod CutLemmas
+mod LineLemmas
+mod FirstLemmas
+mod TextLemmas
+mod TreeLemmas
