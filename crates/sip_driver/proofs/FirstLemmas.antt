@@ -5,11 +5,12 @@ use Rattle.sip_driver.specs.First.{Path, seen, IsPath}
 use Rattle.sip_driver.specs.Profile.{IsFirst}
 use Rattle.sip_driver.specs.Reading.{first_in}
 use Rattle.sip_driver.proofs.LineLemmas.{line_is, line_again, clean_line}
+use Rattle.sip_driver.proofs.InputLemmas.{InputBy, input_found, input_again}
 use Rattle.sip_driver.proofs.TextLemmas.{text_of_lines, lines_again}
 use Rattle.sip_driver.proofs.TreeLemmas.{built_from, tree_again}
 
 pub found_in : (p i : List ℕ) (path : Path) → first_in p i ≡ Some path → IsFirst p i path
-found_in p i path e = let k = text_of_lines in let l = built_from in ?
+found_in p i path e = let k = text_of_lines in let l = built_from in let m = input_again in ?
 
 pub again_in : (p i : List ℕ) (path : Path) → IsFirst p i path → first_in p i ≡ Some path
 again_in p i path h = let k = clean_line in ?

@@ -16,3 +16,4 @@ mod LineLemmas
 mod FirstLemmas
 mod TextLemmas
 mod TreeLemmas
+mod InputLemmas

@@ -50,26 +50,29 @@ not_true : (t : Bool) → not t ≡ true → t ≡ false
 not_true true e = cc
 not_true false e = refl
 
-split_clean : (x : List ℕ) → list_all is_within x ≡ true → slice_split is_end x ≡ x ∷ []
-split_clean [] e = refl
-split_clean (b ∷ bs) e =
-    slice_split-cons_no is_end b bs (not_true (b == 10) (first_of_two (is_within b) (list_all is_within bs) e)) ∙ ap (onto_first b) (split_clean bs (last_of_two (is_within b) (list_all is_within bs) e))
+-- Where no element parts, the list is the one part.
+pub one_part : (p : ℕ → Bool) (x : List ℕ) → list_all (λ b. not (p b)) x ≡ true → slice_split p x ≡ x ∷ []
+one_part p [] e = refl
+one_part p (b ∷ bs) e =
+    slice_split-cons_no p b bs (not_true (p b) (first_of_two (not (p b)) (list_all (λ c. not (p c)) bs) e))
+    ∙ ap (onto_first b) (one_part p bs (last_of_two (not (p b)) (list_all (λ c. not (p c)) bs) e))
 
-split_more : (x rest : List ℕ) → list_all is_within x ≡ true → slice_split is_end (x ++ 10 ∷ rest) ≡ x ∷ slice_split is_end rest
-split_more [] rest e = slice_split-cons_yes is_end 10 rest refl
-split_more (b ∷ bs) rest e =
-    slice_split-cons_no is_end b (bs ++ 10 ∷ rest) (not_true (b == 10) (first_of_two (is_within b) (list_all is_within bs) e))
-    ∙ ap (onto_first b) (split_more bs rest (last_of_two (is_within b) (list_all is_within bs) e))
+-- The first part ends at the first element that parts.
+pub next_part : (p : ℕ → Bool) (x : List ℕ) (c : ℕ) (rest : List ℕ) → list_all (λ b. not (p b)) x ≡ true → p c ≡ true → slice_split p (x ++ c ∷ rest) ≡ x ∷ slice_split p rest
+next_part p [] c rest e h = slice_split-cons_yes p c rest h
+next_part p (b ∷ bs) c rest e h =
+    slice_split-cons_no p b (bs ++ c ∷ rest) (not_true (p b) (first_of_two (not (p b)) (list_all (λ d. not (p d)) bs) e))
+    ∙ ap (onto_first b) (next_part p bs c rest (last_of_two (not (p b)) (list_all (λ d. not (p d)) bs) e) h)
 
 split_join : (x : List ℕ) (xs : List (List ℕ)) → AreClean (x ∷ xs) → slice_split is_end (join_with_byte 10 (x ∷ xs)) ≡ x ∷ xs
-split_join x [] h = split_clean x h.0.within
-split_join x (y ∷ ys) h = split_more x (join_with_byte 10 (y ∷ ys)) h.0.within ∙ ap (λ l. x ∷ l) (split_join y ys h.1)
+split_join x [] h = one_part is_end x h.0.within
+split_join x (y ∷ ys) h = next_part is_end x 10 (join_with_byte 10 (y ∷ ys)) h.0.within refl ∙ ap (λ l. x ∷ l) (split_join y ys h.1)
 
 split_ended : (x : List ℕ) (xs : List (List ℕ)) → AreClean (x ∷ xs) → slice_split is_end (join_with_byte 10 (x ∷ xs) ++ 10 ∷ []) ≡ (x ∷ xs) ++ [] ∷ []
-split_ended x [] h = split_more x [] h.0.within
+split_ended x [] h = next_part is_end x 10 [] h.0.within refl
 split_ended x (y ∷ ys) h =
     ap (slice_split is_end) (append_assoc x (10 ∷ join_with_byte 10 (y ∷ ys)) (10 ∷ []))
-    ∙ split_more x (join_with_byte 10 (y ∷ ys) ++ 10 ∷ []) h.0.within
+    ∙ next_part is_end x 10 (join_with_byte 10 (y ∷ ys) ++ 10 ∷ []) h.0.within refl
     ∙ ap (λ l. x ∷ l) (split_ended y ys h.1)
 
 kept_all : (x : List ℕ) (xs : List (List ℕ)) → AreClean (x ∷ xs) → without_empty_last (x ∷ xs) ≡ x ∷ xs

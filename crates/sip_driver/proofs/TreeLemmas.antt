@@ -10,7 +10,7 @@ use Rattle.sip_driver.specs.Reading.{line_of, begun_by, ended_by, tree_from, tre
 use Rattle.sip_driver.proofs.LineLemmas.{line_is, line_again}
 use Rattle.sip_driver.proofs.SoundLemmas.{first_of_two, last_of_two}
 
-both : (a b : Bool) → a ≡ true → b ≡ true → (a && b) ≡ true
+pub both : (a b : Bool) → a ≡ true → b ≡ true → (a && b) ≡ true
 both a b e f = ap (λ t. t && b) e ∙ f
 
 finished_more : (b : Building) (line next : Line) (lines : List Line) → finished b (line ∷ next ∷ lines) ≡ option_and_then (λ c. finished c (next ∷ lines)) (one_more b line)
