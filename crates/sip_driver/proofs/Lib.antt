@@ -17,3 +17,4 @@ mod FirstLemmas
 mod TextLemmas
 mod TreeLemmas
 mod InputLemmas
+mod RunsLemmas

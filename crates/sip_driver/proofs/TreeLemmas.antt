@@ -10,10 +10,15 @@ use Rattle.sip_driver.specs.Reading.{line_of, begun_by, ended_by, tree_from, tre
 use Rattle.sip_driver.proofs.LineLemmas.{line_is, line_again}
 use Rattle.sip_driver.proofs.SoundLemmas.{first_of_two, last_of_two}
 
+-- Two tests that hold.
 pub both : (a b : Bool) → a ≡ true → b ≡ true → (a && b) ≡ true
 both a b e f = ap (λ t. t && b) e ∙ f
 
-finished_more : (b : Building) (line next : Line) (lines : List Line) → finished b (line ∷ next ∷ lines) ≡ option_and_then (λ c. finished c (next ∷ lines)) (one_more b line)
+same_cons : (x y : List ℕ) (xs ys : List (List ℕ)) → x ≡ y → xs ≡ ys → (x ∷ xs) ≡ (y ∷ ys)
+same_cons x y xs ys e f = ap (λ l. l ∷ xs) e ∙ ap (λ l. y ∷ l) f
+
+-- What is finished of two lines and more.
+pub finished_more : (b : Building) (line next : Line) (lines : List Line) → finished b (line ∷ next ∷ lines) ≡ option_and_then (λ c. finished c (next ∷ lines)) (one_more b line)
 finished_more b (Tail name) next lines = refl
 finished_more b line next lines = refl
 
@@ -46,7 +51,7 @@ finished_from b (x ∷ y ∷ more) t e =
     let h : (spelled line ≡ x) × (is_sound line ≡ true) = line_is x line r in
     record {
       lines = line ∷ rest.lines;
-      spells = ap (λ l. l ∷ map spelled rest.lines) h.0 ∙ ap (λ l. x ∷ l) rest.spells;
+      spells = same_cons (spelled line) x (map spelled rest.lines) _ h.0 rest.spells;
       sound = both (is_sound line) (list_all is_sound rest.lines) h.1 rest.sound;
       made = made_more b c line rest.lines y more t rest.spells s rest.made;
     }))
@@ -65,7 +70,7 @@ first_line b x xs t (Head name) p q e =
     let rest : FinishedBy (begun name) xs t = finished_from (begun name) xs t (subst (λ (c : Building). tree_from c xs ≡ Some t) same e) in
     record {
       lines = Head name ∷ rest.lines;
-      spells = ap (λ l. l ∷ map spelled rest.lines) h.0 ∙ ap (λ l. x ∷ l) rest.spells;
+      spells = same_cons (spelled (Head name)) x (map spelled rest.lines) xs h.0 rest.spells;
       sound = both (is_sound (Head name)) (list_all is_sound rest.lines) h.1 rest.sound;
       made = rest.made;
     }

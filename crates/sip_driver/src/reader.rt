@@ -12,7 +12,6 @@ use sial_syntax::{Bound, IndexDecl, Kind, Range};
 use std::alloc::{AllocError, Global};
 
 /// The program that two texts are, none where they are none of the first profile.
-#[tactic(auto, using(crate::proofs::FirstLemmas::found_if_ok, crate::proofs::FirstLemmas::runs_if_ok, crate::proofs::FirstLemmas::only_if_ok))]
 pub fn read_first(alloc: Global, program: &[u8], input: &[u8]) -> Result<Option<First>, AllocError>
     ensures found { IfOk result (λ read. IfSome read (λ first. IsFirst program.now input.now (seen first))) }
     ensures runs { IfOk result (λ read. IfSome read (λ first. IsPath (seen first))) }
