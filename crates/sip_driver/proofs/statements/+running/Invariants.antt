@@ -10,7 +10,7 @@ use Rattle.sip_driver.proofs.statements.+running.Given as goal
 -- the numbers fit, the statements that are left give what all give, and their lines are left
 abbrev pub invariant-run_body-loop-stmt : goal.invariant-run_body-loop-stmt
 invariant-run_body-loop-stmt g l =
-    Left (seen l.first) l.within (drop l.stmt-index l.stmts) (ran (seen l.first) (block l.stmts) l.fn.machine) l.machine
+    Left (seen l.first) l.within (block (drop l.stmt-index l.stmts)) (ran (seen l.first) (block l.stmts) l.fn.machine) l.machine
     × RanSoFar (g.K.Sink.written l.fn.out) (g.K.Sink.written l.out) (g.K.Sink.faults l.fn.out) (g.K.Sink.faults l.out) (g.K.Sink.kept l.fn.out) (g.K.Sink.kept l.out) (body_lines (seen l.first) (block l.stmts) l.fn.machine) (body_lines (seen l.first) (block (drop l.stmt-index l.stmts)) l.machine)
 
 -- the numbers fit, the turns that are left give what all give, and their lines are left
