@@ -1,7 +1,11 @@
 mod FitsLemmas
 mod NumbersFrom
 mod NumbersLemmas
+mod Places
+mod Printed
 mod RanLemmas
+mod Sequential
+mod StartLemmas
 mod StatementsLemmas
 mod TopLemmas
 mod WroteLemmas
