@@ -1,0 +1,7 @@
+pub mod MixedLemmas
+pub mod RowsLemmas
+pub mod FreeSlots
+pub mod OccupiedLemmas
+pub mod Members
+pub mod LaidLemmas
+pub mod Laws

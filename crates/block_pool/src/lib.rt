@@ -1,0 +1,15 @@
+//! Block memory in slots under leases.
+#![tactic(auto, using(crate::proofs::Laws::all))]
+
+mod how;
+mod lease;
+mod mix;
+mod out_of_memory;
+mod rows;
+mod slots;
+mod state;
+
+pub use how::How;
+pub use lease::{Awaiting, Cached, Owned, Sending};
+pub use out_of_memory::OutOfMemory;
+pub use state::State;

@@ -1,0 +1,94 @@
+//! The words of the slots, all taken at the opening.
+
+ghost use Rattle.std.specs.Prelude.{◌≡◌, ◌≢◌, ◌+◌, ◌≤◌, ◌<◌, ◌++◌, ℕ, [], ◌∷◌, List, length, replicate, take, slice_set, OnOk};
+ghost use Rattle.std.specs.Borrow.{sem};
+ghost use Rattle.block_pool.specs.Memory.{words_at, with_front};
+ghost use Rattle.block_pool.specs.Mixed.{mixed};
+
+use std::alloc::{AllocError, Global};
+use std::marker::Model;
+use std::mem::swap;
+
+use crate::how::How;
+use crate::mix::{mix, write_front};
+
+/// One row of words for each slot.
+#[derive(Drop)]
+pub(crate) struct Rows {
+    rows: Vec<Vec<u64>>,
+    // Holds a row's place while another row is read.
+    spare: Vec<u64>,
+}
+
+impl Model for Rows {
+    ghost use Rattle.std.specs.Prelude.{ℕ, List};
+    ghost use Rattle.block_pool.specs.Rows.{row_words};
+
+    ghost Value = { List (List ℕ) };
+
+    ghost view = { λ r. row_words r.rows.items };
+}
+
+impl Rows {
+    ghost use Rattle.block_pool.specs.LendsRow.{lends_row};
+
+    pub(crate) fn new(alloc: Global) -> Rows
+        ensures { result ≡ [] }
+    {
+        Rows {
+            rows: Vec::new(alloc),
+            spare: Vec::new(alloc),
+        }
+    }
+
+    pub(crate) fn push_zeros(&mut self, alloc: Global, width: usize) -> Result<(), AllocError>
+        ensures { OnOk result (self.new ≡ self.old ++ replicate width 0 ∷ []) }
+    {
+        self.rows.push(vec![in alloc; 0u64; width]?)?;
+        Ok(())
+    }
+
+    pub(crate) fn row(&self, slot: usize) -> &[u64]
+        requires { slot < length self.now }
+        ensures { result.now ≡ words_at self.now slot }
+    {
+        self.rows[slot].as_slice()
+    }
+
+    pub(crate) fn row_mut(&mut self, slot: usize) -> &mut [u64]
+        requires { slot < length self.old }
+        ensures* writes_back { sem 𝓛 (lends_row self.entry slot result) }
+        ensures value { result.now ≡ words_at self.old slot }
+    {
+        let row = &mut self.rows[slot];
+        row.as_mut_slice()
+    }
+
+    // The first words of one row meet another row.
+    pub(crate) fn mix(&mut self, from: usize, to: usize, len: usize, how: How)
+        requires from { from < length self.old }
+        requires to { to < length self.old }
+        requires apart { from ≢ to }
+        requires from_len { len ≤ length (words_at self.old from) }
+        requires to_len { len ≤ length (words_at self.old to) }
+        ensures { self.new ≡ slice_set self.old to (mixed how len (words_at self.old to) (words_at self.old from)) }
+    {
+        swap(&mut self.rows[to], &mut self.spare);
+        mix(self.spare.as_mut_slice(), &self.rows[from][..len], how);
+        swap(&mut self.rows[to], &mut self.spare);
+    }
+
+    // The first words of one row replace those of another.
+    pub(crate) fn copy_front(&mut self, from: usize, to: usize, len: usize)
+        requires from { from < length self.old }
+        requires to { to < length self.old }
+        requires apart { from ≢ to }
+        requires from_len { len ≤ length (words_at self.old from) }
+        requires to_len { len ≤ length (words_at self.old to) }
+        ensures { self.new ≡ slice_set self.old to (with_front (words_at self.old to) (take len (words_at self.old from))) }
+    {
+        swap(&mut self.rows[to], &mut self.spare);
+        write_front(self.spare.as_mut_slice(), &self.rows[from][..len]);
+        swap(&mut self.rows[to], &mut self.spare);
+    }
+}
