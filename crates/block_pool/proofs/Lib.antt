@@ -4,4 +4,5 @@ pub mod FreeSlots
 pub mod OccupiedLemmas
 pub mod Members
 pub mod LaidLemmas
+pub mod Taking
 pub mod Laws

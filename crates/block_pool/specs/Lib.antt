@@ -1,8 +1,11 @@
 pub mod Memory
 pub mod Changes
 pub mod Mixed
+pub mod Opened
+pub mod Lends
+pub mod LendsLifted
+pub mod Occupied
+pub mod Laid
 pub mod Rows
 pub mod LendsRow
-pub mod Occupied
-pub mod Opened
-pub mod Laid
+pub mod Sound

@@ -43,14 +43,18 @@ opened slots width = record {
   most = width;
 }
 
+-- slots of each class, all free and zeros
+abbrev pub started : List ℕ → List ℕ → List ℕ → ℕ → Memory
+started counts widths groups widest = record {
+  classes = classes_from 0 counts;
+  states = replicate (length (classes_from 0 counts)) Free;
+  words = zeros_of widths (classes_from 0 counts);
+  groups = groups;
+  is_lifted = false;
+  widest = widest;
+  most = slice_index widths widest;
+}
+
 -- for each class so many slots, so wide
 abbrev pub opened_classes : List ℕ → List ℕ → Memory
-opened_classes slots widths = record {
-  classes = classes_from 0 slots;
-  states = replicate (length (classes_from 0 slots)) Free;
-  words = zeros_of widths (classes_from 0 slots);
-  groups = each_class;
-  is_lifted = false;
-  widest = widest_of widths;
-  most = slice_index widths (widest_of widths);
-}
+opened_classes slots widths = started slots widths each_class (widest_of widths)

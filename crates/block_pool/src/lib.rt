@@ -3,13 +3,17 @@
 
 mod how;
 mod lease;
+mod lifted;
 mod mix;
 mod out_of_memory;
+mod pool;
 mod rows;
 mod slots;
 mod state;
 
 pub use how::How;
 pub use lease::{Awaiting, Cached, Owned, Sending};
+pub use lifted::Lifted;
 pub use out_of_memory::OutOfMemory;
+pub use pool::{copy_between, copy_front, Pool};
 pub use state::State;

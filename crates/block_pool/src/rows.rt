@@ -64,6 +64,23 @@ impl Rows {
         row.as_mut_slice()
     }
 
+    // A row is zeros.
+    pub(crate) fn zero(&mut self, slot: usize)
+        requires { slot < length self.old }
+        ensures { self.new ≡ slice_set self.old slot (replicate (length (words_at self.old slot)) 0) }
+    {
+        self.row_mut(slot).fill(0);
+    }
+
+    // Words replace the front of a row.
+    pub(crate) fn write_front(&mut self, slot: usize, from: &[u64])
+        requires within { slot < length self.old }
+        requires fits { length from.now ≤ length (words_at self.old slot) }
+        ensures { self.new ≡ slice_set self.old slot (with_front (words_at self.old slot) from.now) }
+    {
+        write_front(self.row_mut(slot), from);
+    }
+
     // The first words of one row meet another row.
     pub(crate) fn mix(&mut self, from: usize, to: usize, len: usize, how: How)
         requires from { from < length self.old }
