@@ -5,4 +5,6 @@ pub mod OccupiedLemmas
 pub mod Members
 pub mod LaidLemmas
 pub mod Taking
+pub mod OpenedLemmas
+pub mod WidestLemmas
 pub mod Laws

@@ -1,8 +1,9 @@
 //! The words of the slots, all taken at the opening.
 
-ghost use Rattle.std.specs.Prelude.{◌≡◌, ◌≢◌, ◌+◌, ◌≤◌, ◌<◌, ◌++◌, ℕ, [], ◌∷◌, List, length, replicate, take, slice_set, OnOk};
+ghost use Rattle.std.specs.Prelude.{◌≡◌, ◌≢◌, ◌+◌, ◌≤◌, ◌<◌, ◌++◌, ℕ, [], ◌∷◌, List, length, replicate, take, slice_index, slice_set, IfOk, OnOk};
 ghost use Rattle.std.specs.Borrow.{sem};
 ghost use Rattle.block_pool.specs.Memory.{words_at, with_front};
+ghost use Rattle.block_pool.specs.Opened.{zeros_of};
 ghost use Rattle.block_pool.specs.Mixed.{mixed};
 
 use std::alloc::{AllocError, Global};
@@ -108,4 +109,22 @@ impl Rows {
         write_front(self.spare.as_mut_slice(), &self.rows[from][..len]);
         swap(&mut self.rows[to], &mut self.spare);
     }
+}
+
+// A row of zeros for each slot, as wide as its class.
+pub(crate) fn zero_rows(alloc: Global, classes: &[u32], widths: &[u32]) -> Result<Rows, AllocError>
+    ensures { IfOk result (λ r. r ≡ zeros_of widths.now classes.now) }
+{
+    let mut rows = Rows::new(alloc);
+    for class in classes {
+        rows.push_zeros(alloc, width_of(widths, *class) as usize)?;
+    }
+    Ok(rows)
+}
+
+// The width of a class; 0 where there is no such class.
+pub(crate) fn width_of(widths: &[u32], class: u32) -> u32
+    ensures { result ≡ slice_index widths.now class }
+{
+    widths.get(class as usize).copied().unwrap_or(0)
 }
