@@ -1,11 +1,10 @@
 -- One class more is laid out, and then no slot is taken.
-use Rattle.std.proofs.Common.{◌≡◌, ◌≢◌, ℕ, zero, suc, subst, ◌+◌, ◌-◌, ◌<◌, ◌≤◌, ◌^◌, ◌⊎◌, inl, inr, List, [], ◌∷◌, ◌++◌, length, get_or, replicate, refl, ap, sym, ◌∙◌, arith, length-append}
+use Rattle.std.proofs.Common.{◌≡◌, ℕ, zero, suc, subst, ◌+◌, ◌-◌, ◌<◌, ◌^◌, inl, inr, List, [], ◌∷◌, ◌++◌, length, get_or, replicate, refl, ap, ◌∙◌, arith, length-append}
 use Rattle.std.proofs.lemmas.Bool.{cases_lt}
-use Rattle.std.proofs.lemmas.List.{get_or_append_left, get_or-append_right, get_or-append-add, get_or_push, get_or-replicate, length-replicate, length_push}
+use Rattle.std.proofs.lemmas.List.{get_or_append_left, get_or-append-add, get_or_push, get_or-replicate, length-replicate, length_push}
 use Rattle.block_pool.specs.declared.slots.Group.{Group}
-use Rattle.block_pool.specs.declared.state.State.{State}
 use Rattle.block_pool.specs.declared.state.State.TheVariants.{Free}
-use Rattle.block_pool.specs.Memory.{state_at, free_slots}
+use Rattle.block_pool.specs.Memory.{state_at}
 use Rattle.block_pool.specs.Occupied.{IsIn, IsTied, group_at, first_of, table_of, room_of}
 use Rattle.block_pool.specs.Laid.{IsLaid, members}
 use Rattle.block_pool.proofs.Members.{free_slots-replicate, members-append, members-replicate_same, members-replicate_other, members-none}
@@ -66,7 +65,7 @@ module _ (gs : List Group) (cs : List ℕ) (laid : IsLaid gs cs) (v : Group) (n 
           from = rw (old_first (get_or cs slot 0) was.known) was.from;
           to = rw (old_first (get_or cs slot 0) was.known, old_room (get_or cs slot 0) was.known) was.to;
         })
-      )
+        )
     | inr high ↦ (
         let k : ℕ = slot - length cs in
         let at : slot ≡ length cs + k = omega arith in
@@ -77,7 +76,7 @@ module _ (gs : List Group) (cs : List ℕ) (laid : IsLaid gs cs) (v : Group) (n 
           from = rw new_first high;
           to = rw (new_first, new_room) (omega arith);
         })
-      )
+        )
   ]
 
   within : (g : ℕ) → g < length more → (k : ℕ) → k < room_of more g → first_of more g + k < length all
@@ -96,14 +95,14 @@ module _ (gs : List Group) (cs : List ℕ) (laid : IsLaid gs cs) (v : Group) (n 
   count : (g : ℕ) → g < length more → members g all ≡ room_of more g
   count = by_group (λ g. members g all ≡ room_of more g)
       (λ g h. rw (old_room g h) (
-        let none : members g (replicate n (length gs)) ≡ 0 = members-replicate_other g (length gs) n (λ e. absurd (omega arith)) in
-        let was = laid.count g h in
-        members-append g cs (replicate n (length gs)) ∙ omega arith
+      let none : members g (replicate n (length gs)) ≡ 0 = members-replicate_other g (length gs) n (λ e. absurd (omega arith)) in
+      let was = laid.count g h in
+      members-append g cs (replicate n (length gs)) ∙ omega arith
       ))
       (rw new_room (
-        let none : members (length gs) cs ≡ 0 = members-none (length gs) cs (λ slot h. (laid.home slot h).known) in
-        let here = members-replicate_same (length gs) n in
-        members-append (length gs) cs (replicate n (length gs)) ∙ omega arith
+      let none : members (length gs) cs ≡ 0 = members-none (length gs) cs (λ slot h. (laid.home slot h).known) in
+      let here = members-replicate_same (length gs) n in
+      members-append (length gs) cs (replicate n (length gs)) ∙ omega arith
       ))
 
   small : (g : ℕ) → g < length more → room_of more g < 2 ^ 32

@@ -7,4 +7,10 @@ pub mod LaidLemmas
 pub mod Taking
 pub mod OpenedLemmas
 pub mod WidestLemmas
+pub mod OneChange
+pub mod Leases
+pub mod Frames
+pub mod Counting
+pub mod Closing
+pub mod LeaseLists
 pub mod Laws

@@ -1,9 +1,9 @@
 -- How many slots are of a class.
-use Rattle.std.proofs.Common.{◌≡◌, ◌≢◌, ℕ, zero, suc, ◌+◌, ◌-◌, ◌<◌, ◌≤◌, ◌⊎◌, inl, inr, true, false, Bool, List, [], ◌∷◌, ◌++◌, length, get_or, replicate, refl, ap, sym, ◌∙◌, arith, eq-eqb, ne_eqb}
+use Rattle.std.proofs.Common.{◌≡◌, ◌≢◌, ℕ, zero, suc, ◌+◌, ◌-◌, ◌<◌, ◌≤◌, inl, inr, true, false, Bool, List, [], ◌∷◌, ◌++◌, length, get_or, replicate, refl, ◌∙◌, arith, eq-eqb, ne_eqb}
 use Rattle.std.specs.Prelude.{◌==◌, ◌&&◌}
 use Rattle.std.proofs.lemmas.Bool.{cases_eq}
 use Rattle.block_pool.specs.declared.state.State.TheVariants.{Free}
-use Rattle.block_pool.specs.Memory.{free_slots, one_if}
+use Rattle.block_pool.specs.Memory.{free_slots}
 use Rattle.block_pool.specs.Laid.{members}
 use Rattle.block_pool.specs.Opened.{classes_from}
 
@@ -53,11 +53,11 @@ members-classes_from c g (n ∷ ns) h =
           let here : members g (replicate n c) ≡ n = rw e (members-replicate_same g n) in
           let at : g - c ≡ 0 = omega arith in
           rw (none, here, at) (omega arith)
-        )
+          )
       | inr ne ↦ (
           let none : members g (replicate n c) ≡ 0 = members-replicate_other g c n ne in
           let rest : members g (classes_from (c + 1) ns) ≡ get_or ns (g - (c + 1)) 0 = members-classes_from (c + 1) g ns (omega arith) in
           let at : g - c ≡ suc (g - (c + 1)) = omega arith in
           rw (none, rest, at) (omega arith)
-        )
+          )
     ]

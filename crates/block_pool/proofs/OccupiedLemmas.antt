@@ -1,5 +1,5 @@
 -- The slabs of the classes, as slots are taken and given back.
-use Rattle.std.proofs.Common.{◌≡◌, ◌≢◌, ℕ, ◌+◌, ◌<◌, ◌≤◌, ◌⊎◌, inl, inr, true, false, List, [], length, get_or, set, refl, ap, sym, ◌∙◌, arith, length-set, Option, Some, None, is_some, not, eq-eqb, ne_eqb, ltb, ◌-◌}
+use Rattle.std.proofs.Common.{◌≡◌, ◌≢◌, ℕ, ◌+◌, ◌<◌, ◌≤◌, inl, inr, true, false, List, length, get_or, set, refl, ap, sym, ◌∙◌, arith, length-set, Option, Some, None, is_some, not, eq-eqb, ne_eqb, ltb, ◌-◌}
 use borrow.Author.Tests.{ltb-true, ltb-false}
 use Rattle.std.specs.Prelude.{◌==◌}
 use Rattle.std.proofs.lemmas.Bool.{cases_eq, cases_Bool}
@@ -9,7 +9,7 @@ use Rattle.slab.specs.Slab.{Slab, get, slab_len, Updates, HasRoomFor}
 use Rattle.block_pool.specs.declared.state.State.{State}
 use Rattle.block_pool.specs.declared.state.State.TheVariants.{Free, Own, Await, Keep, Send, Lift}
 use Rattle.block_pool.specs.declared.slots.Group.{Group}
-use Rattle.block_pool.specs.Memory.{state_at, is_free, free_slots, serves, one_if}
+use Rattle.block_pool.specs.Memory.{state_at, is_free, free_slots, one_if}
 use Rattle.block_pool.specs.Occupied.{IsTied, IsIn, group_at, first_of, table_of, room_of}
 use Rattle.block_pool.proofs.FreeSlots.{free_slots-set, free_slots-none}
 
@@ -65,12 +65,12 @@ module _ (gs : List Group) (cs : List ℕ) (ss : List State) (tied : IsTied gs c
           let away : first_of gs g + j ≢ slot = λ z. nf (omega arith) in
           let kj2 : j < room_of gs g = rw e at kj in
           rw (e, table_here, updates.others j nf, get_or-set_other ss slot (first_of gs g + j) s Free away) (tied.taken g j known kj2)
-        )
+          )
     ]
     | inr ne ↦ (
         let away : first_of gs h + j ≢ slot = λ z. ne (sym (tied.named h j kh kj) ∙ (ap (λ n. get_or cs n 0) z ∙ class_here)) in
         rw (table_other h ne, get_or-set_other ss slot (first_of gs h + j) s Free away) (tied.taken h j kh kj)
-      )
+        )
   ]
 
   count_after : (h : ℕ) → h < length gs → slab_len (table_of after h) + free_slots h cs (set ss slot s) ≡ room_of gs h
@@ -84,13 +84,13 @@ module _ (gs : List Group) (cs : List ℕ) (ss : List State) (tied : IsTied gs c
             let here : slab_len (table_of after h) ≡ slab_len t = rw e (ap (λ (x : Slab (Unit {0})). slab_len x) table_here) in
             let count_h : slab_len t + one_if (is_free s) ≡ slab_len (table_of gs h) + one_if (is_free (state_at ss slot)) = rw e count in
             omega (arith, step, was, here, count_h)
-          )
+            )
         | inr ne ↦ (
             let test : (get_or cs slot 0 == h) ≡ false = ne_eqb (get_or cs slot 0) h (λ z. ne (sym z ∙ class_here)) in
             let step = rw test at change in
             let here : slab_len (table_of after h) ≡ slab_len (table_of gs h) = ap (λ (x : Slab (Unit {0})). slab_len x) (table_other h ne) in
             omega (arith, step, was, here)
-          )
+            )
       ]
 
   pub tied_after : IsTied after cs (set ss slot s)
@@ -177,7 +177,7 @@ module _ (gs : List Group) (cs : List ℕ) (ss : List State) (g key : ℕ) (v : 
       let longer1 : slab_len t ≡ slab_len (table_of gs g) + 1 = rw group_is at longer in
       let was : state_at ss (first_of gs g + key) ≡ Free = rw (← same_slot) vacant_state in
       rw group_is (tied_after gs cs ss tied g key known key_low s (Some tt) t updates1 (sym (ap not not_free)) (room ∙ ap (λ (x : Group). x.table.capacity) group_is)
-        (rw (not_free, was) (omega (arith, longer1))))
+      (rw (not_free, was) (omega (arith, longer1))))
 
 -- a slot that is not free
 module _ (gs : List Group) (cs : List ℕ) (ss : List State) (slot g : ℕ) (tied : IsTied gs cs ss) (within_cs : slot < length cs)
@@ -202,7 +202,7 @@ module _ (gs : List Group) (cs : List ℕ) (ss : List State) (slot g : ℕ) (tie
   tied_moved s not_free =
       let same : set gs g (group_at gs g) ≡ gs = set-get_or gs g _ in
       let after = tied_after gs cs ss tied g (slot - first_of gs g) held_known place_low s (get (table_of gs g) (slot - first_of gs g)) (table_of gs g)
-          (record { changed = refl; others = λ other ne. refl }) (is_taken ∙ sym (ap not not_free)) refl (rw (place, not_free, held) refl) in
+      (record { changed = refl; others = λ other ne. refl }) (is_taken ∙ sym (ap not not_free)) refl (rw (place, not_free, held) refl) in
       rw (place, same) at after
 
   -- was given back
@@ -215,6 +215,6 @@ module _ (gs : List Group) (cs : List ℕ) (ss : List State) (slot g : ℕ) (tie
       let updates1 : Updates (table_of gs g) t (slot - first_of gs g) None = rw group_is at updates in
       let shorter1 : slab_len t + 1 ≡ slab_len (table_of gs g) = rw group_is at (on_some o (ap is_some found1 ∙ is_taken) shorter) in
       let after = tied_after gs cs ss tied g (slot - first_of gs g) held_known place_low Free None t updates1 refl (room ∙ ap (λ (x : Group). x.table.capacity) group_is)
-          (rw (place, held) (omega (arith, shorter1))) in
+      (rw (place, held) (omega (arith, shorter1))) in
       let after1 = rw place at after in
       rw group_is after1

@@ -1,11 +1,11 @@
 -- What an opening's start means.
-use Rattle.std.proofs.Common.{◌≡◌, ◌≢◌, ℕ, zero, suc, ◌+◌, ◌-◌, ◌<◌, ◌≤◌, true, List, [], ◌∷◌, ◌++◌, length, map, get_or, set, replicate, refl, ap, sym, ◌∙◌, arith, append-nil, eqb-true}
+use Rattle.std.proofs.Common.{◌≡◌, ℕ, zero, suc, ◌-◌, ◌<◌, List, [], ◌∷◌, length, map, get_or, set, replicate, refl, ap, ◌∙◌, arith, append-nil, eqb-true}
 use Rattle.std.proofs.lemmas.List.{get_or-replicate, get_or-map, length-replicate, length-map}
 use Rattle.std.proofs.lemmas.List.FromFn.{get_or-range_with_len}
 use Rattle.block_pool.specs.declared.state.State.TheVariants.{Free}
-use Rattle.block_pool.specs.Memory.{Memory, free_in, free_slots, group_of, names, words_at}
+use Rattle.block_pool.specs.Memory.{free_in, free_slots, group_of}
 use Rattle.block_pool.specs.Changes.{HasWidth}
-use Rattle.block_pool.specs.Opened.{opened, opened_classes, started, classes_from, zeros_of, each_class}
+use Rattle.block_pool.specs.Opened.{opened, opened_classes, started, classes_from, each_class}
 use Rattle.block_pool.proofs.Members.{free_slots-replicate, members-replicate_same, members-classes_from}
 
 map-replicate : {A B : Type 0} (f : A → B) (n : ℕ) (x : A) → map f (replicate n x) ≡ replicate n (f x)

@@ -1,5 +1,5 @@
 -- The words of the slots, row by row.
-use Rattle.std.proofs.Common.{◌≡◌, ◌≢◌, ℕ, ◌+◌, ◌<◌, ◌≤◌, refl, ap, sym, ◌∙◌, arith, length-append, length-drop, List, [], length, get_or, set, drop}
+use Rattle.std.proofs.Common.{◌≡◌, ◌≢◌, ℕ, ◌<◌, ◌≤◌, refl, ap, sym, ◌∙◌, arith, length-append, length-drop, List, [], length, get_or, set, drop}
 use Rattle.std.specs.List.{refill}
 use Rattle.std.specs.Global.{Vec}
 use Rattle.std.proofs.lemmas.List.{map-set, get_or-map, length-map, take_at, set-get_or, set-set, get_or-set_other}

@@ -1,5 +1,5 @@
 -- What follows of a slot that was taken.
-use Rattle.std.proofs.Common.{◌≡◌, ℕ, ◌≢◌, ◌≤◌, List, [], length, take, ap, ◌∙◌, refl, sym, length-set, arith, length-append, append-nil}
+use Rattle.std.proofs.Common.{◌≡◌, ℕ, ◌≢◌, List, [], length, take, ap, ◌∙◌, refl, arith, append-nil}
 use Rattle.std.proofs.lemmas.List.{get_or-set_same, get_or-set_other, set-set, drop_all}
 use Rattle.block_pool.specs.declared.state.State.{State}
 use Rattle.block_pool.specs.declared.state.State.TheVariants.{Own}

@@ -52,26 +52,26 @@ widest-cases known class (w ∷ ws) =
             | inl u ↦ inl (record { same = u.same; zeros = zero_there w ws e u.zeros })
             | inr f ↦ inr (found_later class _ w ws f)
           ]
-        )
+          )
       | inr ne ↦ rw (ne_eqb w 0 ne) (
           elim (widest-cases class (class + 1) ws) as (λ _. IsUnchanged known (widest_from class (class + 1) ws) (w ∷ ws) ⊎ IsFound class (widest_from class (class + 1) ws) (w ∷ ws)) [
             | inl u ↦ inr (found_here class _ w ws ne u)
             | inr f ↦ inr (found_later class _ w ws f)
           ]
-        )
+          )
     ]
 
 -- of at most 17 classes
 pub widest-is : (ws : List ℕ) → length ws ≤ 17 → IsWidest ws (widest_of ws)
 widest-is ws h = elim (widest-cases 17 0 ws) as (λ _. IsWidest ws (widest_of ws)) [
   | inl u ↦ record {
-      wide = λ ne. absurd (ne u.same);
-      above = λ class past. u.zeros class;
-      none = λ e class. u.zeros class;
-    }
+    wide = λ ne. absurd (ne u.same);
+    above = λ class past. u.zeros class;
+    none = λ e class. u.zeros class;
+  }
   | inr f ↦ record {
-      wide = λ ne. let back : widest_of ws - 0 ≡ widest_of ws = omega arith in rw back at f.wide;
-      above = λ class past. f.above class (omega arith);
-      none = λ e class. absurd (let to = f.to in omega arith);
-    }
+    wide = λ ne. let back : widest_of ws - 0 ≡ widest_of ws = omega arith in rw back at f.wide;
+    above = λ class past. f.above class (omega arith);
+    none = λ e class. absurd (let to = f.to in omega arith);
+  }
 ]

@@ -40,6 +40,11 @@ pub record Lifts (old new : Memory) (lifted : Apart) : Type 0 where
   pub is_lifted : new.is_lifted ≡ true
   pub words : lifted.words ≡ replicate old.most 0
 
+-- a lifted lease stands in the pool, with as many words as were lifted
+pub record StandsLifted (p : Memory) (lifted : Apart) : Type 0 where
+  pub slot : Stands p Lift lifted.slot
+  pub width : length lifted.words ≡ p.most
+
 -- as many classes and states as slots
 pub record IsMemory (p : Memory) : Type 0 where
   pub states : length p.states ≡ length p.words

@@ -1,5 +1,6 @@
 pub mod Memory
 pub mod Changes
+pub mod Standing
 pub mod Mixed
 pub mod Opened
 pub mod Lends

@@ -15,5 +15,5 @@ pub use how::How;
 pub use lease::{Awaiting, Cached, Owned, Sending};
 pub use lifted::Lifted;
 pub use out_of_memory::OutOfMemory;
-pub use pool::{copy_between, copy_front, Pool};
+pub use pool::{Pool, copy_between, copy_front};
 pub use state::State;

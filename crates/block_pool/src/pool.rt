@@ -3,20 +3,19 @@
 ghost use Rattle.std.specs.Prelude.{◌≡◌, ◌<◌, ◌≤◌, ℕ, false, length, take, slice_index, IfOk};
 ghost use Rattle.std.specs.Borrow.{sem};
 ghost use Rattle.block_pool.specs.Memory.{Memory, free_in, group_of, is_free, words_at, zeros_at, with_front};
-ghost use Rattle.block_pool.specs.Changes.{Stands, Changes, Writes, Takes, Lifts, IsMemory, AreWide, HasWidth};
+ghost use Rattle.block_pool.specs.Changes.{Stands, Changes, Writes, Takes, Lifts, StandsLifted, IsMemory, AreWide, HasWidth};
 ghost use Rattle.block_pool.specs.Opened.{opened, opened_classes, started, widest_of as highest_wide, widest_from, IsWidest};
 ghost use Rattle.block_pool.specs.Mixed.{mixed};
-
-use std::alloc::{AllocError, Global};
-use std::marker::Model;
 
 use crate::how::How;
 use crate::lease::{Awaiting, Cached, Owned, Sending};
 use crate::lifted::Lifted;
 use crate::out_of_memory::OutOfMemory;
-use crate::rows::{width_of, zero_rows, Rows};
+use crate::rows::{Rows, width_of, zero_rows};
 use crate::slots::Slots;
 use crate::state::State;
+use std::alloc::{AllocError, Global};
+use std::marker::Model;
 
 // Each class names its own slots.
 const EACH_CLASS: [u32; 17] = [0, 1, 2, 3, 4, 5, 6, 7, 8, 9, 10, 11, 12, 13, 14, 15, 16];
@@ -80,7 +79,13 @@ impl Pool {
         ensures widest { IfOk result (λ p. IsWidest widths.now p.widest) }
     {
         let widest = widest_of(widths.as_slice());
-        let pool = new_pool(alloc, slots.as_slice(), widths.as_slice(), &EACH_CLASS, widest)?;
+        let pool = new_pool(
+            alloc,
+            slots.as_slice(),
+            widths.as_slice(),
+            &EACH_CLASS,
+            widest,
+        )?;
         Ok(pool)
     }
 
@@ -102,7 +107,11 @@ impl Pool {
     fn group_of(&self, class: u32) -> u32
         ensures { result ≡ group_of self.now.groups class }
     {
-        self.groups.as_slice().get(class as usize).copied().unwrap_or(17)
+        self.groups
+            .as_slice()
+            .get(class as usize)
+            .copied()
+            .unwrap_or(17)
     }
 
     /// Takes a slot that class 16 names.
@@ -303,7 +312,8 @@ impl Pool {
         requires into_len { len ≤ length (words_at self.old.words into.now) }
         ensures { Writes self.old self.new into.now State.Own (mixed How.Greatest len (words_at self.old.words into.now) (words_at self.old.words from.now)) }
     {
-        self.rows.mix(from.slot, into.slot, len as usize, How::Greatest);
+        self.rows
+            .mix(from.slot, into.slot, len as usize, How::Greatest);
     }
 
     /// Lifts a slot of the widest class: zeros apart from the pool, to be written while slots are read.
@@ -321,8 +331,7 @@ impl Pool {
 
     /// Gives a lifted slot back.
     pub fn lower(&mut self, lifted: Lifted)
-        requires stands { Stands self.old State.Lift lifted.slot }
-        requires wide { length lifted.words ≡ self.old.most }
+        requires { StandsLifted self.old lifted }
         ensures changes { Changes self.old self.new lifted.slot State.Free (words_at self.old.words lifted.slot) }
         ensures down { self.new.is_lifted ≡ false }
     {

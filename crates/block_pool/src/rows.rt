@@ -6,12 +6,11 @@ ghost use Rattle.block_pool.specs.Memory.{words_at, with_front};
 ghost use Rattle.block_pool.specs.Opened.{zeros_of};
 ghost use Rattle.block_pool.specs.Mixed.{mixed};
 
+use crate::how::How;
+use crate::mix::{mix, write_front};
 use std::alloc::{AllocError, Global};
 use std::marker::Model;
 use std::mem::swap;
-
-use crate::how::How;
-use crate::mix::{mix, write_front};
 
 /// One row of words for each slot.
 #[derive(Drop)]

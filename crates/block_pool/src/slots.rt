@@ -3,11 +3,10 @@
 ghost use Rattle.std.specs.Prelude.{◌≡◌, ◌+◌, ◌<◌, ◌++◌, ◌≤◌, [], false, length, replicate, slice_index, slice_set, IfOk, OnOk};
 ghost use Rattle.block_pool.specs.Memory.{state_at, is_free, free_slots};
 
+use crate::state::State;
 use slab::Slab;
 use std::alloc::{AllocError, Global};
 use std::marker::Model;
-
-use crate::state::State;
 
 /// The run of slots of one class; a key of its slab is a slot of the run.
 #[derive(Drop)]

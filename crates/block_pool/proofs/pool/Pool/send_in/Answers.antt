@@ -1,4 +1,4 @@
-use Rattle.std.proofs.Common.{◌≡◌, ◌≤◌, ℕ, List, length, take, refl, ap, ◌∙◌, arith, slice_set}
+use Rattle.std.proofs.Common.{◌≡◌, ◌≤◌, ℕ, List, length, take, ap, ◌∙◌, slice_set}
 use Rattle.std.proofs.lemmas.List.{length-replicate, length-take-le}
 use Rattle.block_pool.specs.contracts.pool.Pool.{the_view}
 use Rattle.block_pool.specs.Memory.{Memory, words_at, with_front, zeros_at}

@@ -1,8 +1,7 @@
-use Rattle.std.proofs.Common.{rules, ◌≡◌, ◌+◌, ◌<◌, ◌^◌, ◌++◌, [], ◌∷◌, length, replicate, drop, slice_index, arith, ap, ◌∙◌, sym, append_assoc}
+use Rattle.std.proofs.Common.{rules, ◌≡◌, ◌+◌, ◌<◌, ◌^◌, ◌++◌, [], ◌∷◌, length, replicate, slice_index, arith, ap, ◌∙◌, append_assoc}
 use Rattle.std.proofs.lemmas.List.{length_push, drop_more}
 use Rattle.block_pool.specs.declared.state.State.TheVariants.{Free}
-use Rattle.block_pool.specs.Opened.{classes_from}
-use Rattle.block_pool.proofs.LaidLemmas.{laid_push, tied_at_first, laid_none}
+use Rattle.block_pool.proofs.LaidLemmas.{laid_push, tied_at_first}
 use Rattle.block_pool.proofs.slots.Slots.open.Goals as goal
 
 pub loop-at-preserved : goal.loop-at-preserved

@@ -1,8 +1,5 @@
-use Rattle.std.proofs.Common.{rules, ◌≡◌, ℕ, ◌+◌, ◌<◌, length, arith, ap, ◌∙◌, sym}
-use Rattle.block_pool.specs.declared.state.State.{State}
-use Rattle.block_pool.specs.Memory.{free_slots, state_at}
-use Rattle.block_pool.specs.Occupied.{Occupied, IsTied, room_of}
-use Rattle.block_pool.proofs.OccupiedLemmas.{known_class, has_room, vacant_state, taken_within, taken_listed, taken_class, tied_taken, group_read}
+use Rattle.std.proofs.Common.{rules, ◌+◌, ◌<◌, length}
+use Rattle.block_pool.proofs.OccupiedLemmas.{known_class, has_room, vacant_state, taken_within, taken_listed, taken_class, tied_taken}
 use Rattle.block_pool.proofs.slots.Slots.take.Goals as goal
 
 pub index_mut-group-requires : goal.index_mut-group-requires
