@@ -27,6 +27,10 @@ module _ {p p1 : Memory} {t : ℕ} {s1 : State} {w : List ℕ} (ch : Changes p p
         );
   }
 
+-- nothing was done
+pub frames_refl : {p : Memory} (xs : List (Option ℕ)) → Frames p p xs xs
+frames_refl xs = record { others_stay = λ zs ws apart k. (k, apart) }
+
 -- one call after another
 pub frames_then : {p p1 p2 : Memory} {xs ys vs : List (Option ℕ)} → Frames p p1 xs ys → Frames p1 p2 ys vs → Frames p p2 xs vs
 frames_then a b = record { others_stay = λ zs ws apart k. let r = a.others_stay zs ws apart k in b.others_stay zs ws r.1 r.0 }
@@ -93,6 +97,10 @@ frames_all {p} {p1} {t} {s1} {w} ch xs i here st = record { all_stay = λ s zs w
 -- a free slot was taken: nobody held it
 pub frames_all_free : {p p1 : Memory} {t : ℕ} {s1 : State} {w : List ℕ} → Changes p p1 t s1 w → (xs : List (Option ℕ)) → Stands p Free t → FramesAll p p1 xs
 frames_all_free ch xs st = record { all_stay = λ s zs ws taken apart k. others ch st (λ e. taken (sym e)) k }
+
+-- nothing was done
+pub frames_all_refl : {p : Memory} (xs : List (Option ℕ)) → FramesAll p p xs
+frames_all_refl xs = record { all_stay = λ s zs ws taken apart k. k }
 
 -- one call after another
 pub frames_all_then : {p p1 p2 : Memory} {xs : List (Option ℕ)} → FramesAll p p1 xs → FramesAll p1 p2 xs → FramesAll p p2 xs

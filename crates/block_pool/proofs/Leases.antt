@@ -1,5 +1,5 @@
 -- What becomes of a list of leases, where one slot of their pool changes.
-use Rattle.std.proofs.Common.{◌≡◌, ◌≢◌, ◌⊎◌, ℕ, zero, suc, ◌+◌, ◌<◌, ◌≤◌, List, [], ◌∷◌, ◌++◌, length, map, get_or, set, refl, ap, sym, ◌∙◌, inl, inr, true, ltb, if◌then◌else◌, arith, Option, Some, None}
+use Rattle.std.proofs.Common.{◌≡◌, ◌≢◌, ◌⊎◌, ℕ, zero, suc, ◌+◌, ◌<◌, ◌≤◌, List, [], ◌∷◌, ◌++◌, length, map, get_or, set, refl, ap, sym, ◌∙◌, inl, inr, true, ltb, if◌then◌else◌, arith, Option, Some, None, replicate}
 use Rattle.std.specs.Option.{option_map}
 use Rattle.std.specs.List.{remove}
 use Rattle.std.proofs.lemmas.Bool.{cases_eq, cases_Bool}
@@ -9,7 +9,7 @@ use Rattle.std.proofs.lemmas.List.Edits.{get_or-remove_below, get_or-remove_abov
 use Rattle.block_pool.specs.declared.state.State.{State}
 use Rattle.block_pool.specs.Memory.{Memory, words_at, state_at, names}
 use Rattle.block_pool.specs.Changes.{Changes, Stands}
-use Rattle.block_pool.specs.Standing.{Holds, Keeps, Named, lease_at, contents}
+use Rattle.block_pool.specs.Standing.{Holds, Keeps, Named, NoShared, lease_at, contents}
 use Rattle.block_pool.proofs.RowsLemmas.{set_present}
 use Rattle.block_pool.proofs.OneChange.{stands_other, stands_at, words_other, words_same}
 
@@ -256,3 +256,19 @@ named_still ch n = record { named = λ i slot e. rw (ch.classes, ch.groups) (n.n
 -- the words of a lease
 pub read_words : (p : Memory) (xs : List (Option ℕ)) (i t : ℕ) → lease_at xs i ≡ Some t → get_or (contents p xs) i None ≡ Some (words_at p.words t)
 read_words p xs i t here = get_or-map (option_map (words_at p.words)) xs i None None (lease_within xs i t here) ∙ ap (option_map (words_at p.words)) here
+
+none_there : (n i x : ℕ) → lease_at (replicate n None) i ≡ Some x → ⊥
+none_there zero i x e = absurd (cc)
+none_there (suc n) zero x e = absurd (cc)
+none_there (suc n) (suc i) x e = none_there n i x e
+
+-- empty places hold nothing
+pub holds_none : (p : Memory) (s : State) (n : ℕ) → Holds p s (replicate n None)
+holds_none p s n = record {
+  stands = λ i x e. absurd (none_there n i x e);
+  apart = λ i j x a b. absurd (none_there n i x a);
+}
+
+-- empty places share nothing
+pub none_shared : (n : ℕ) (zs : List (Option ℕ)) → NoShared (replicate n None) zs
+none_shared n zs = record { differ = λ i j x a b. none_there n i x a }

@@ -2,7 +2,7 @@
 use Rattle.std.specs.Prelude.{◌≡◌, ◌≢◌, ℕ, ◌+◌, List, [], ◌∷◌, true, Option, Some, None, map, slice_index_or}
 use Rattle.std.specs.Option.{option_map, unwrap_or}
 use Rattle.block_pool.specs.declared.state.State.{State}
-use Rattle.block_pool.specs.declared.state.State.TheVariants.{Free, Own}
+use Rattle.block_pool.specs.declared.state.State.TheVariants.{Free, Own, Await, Keep, Send}
 use Rattle.block_pool.specs.Memory.{Memory, words_at, names, one_if, free_in}
 use Rattle.block_pool.specs.Changes.{IsMemory, Stands}
 
@@ -14,6 +14,14 @@ lease_at xs i = slice_index_or xs i None
 pub record Holds (p : Memory) (s : State) (xs : List (Option ℕ)) : Type 0 where
   pub stands : (i slot : ℕ) → lease_at xs i ≡ Some slot → Stands p s slot
   pub apart : (i j slot : ℕ) → lease_at xs i ≡ Some slot → lease_at xs j ≡ Some slot → i ≡ j
+
+-- a value with these leases stands in the pool: each of them does, and no two name one slot, since a
+-- slot has one state
+pub record StandsIn (p : Memory) (own await keep send : List (Option ℕ)) : Type 0 where
+  pub owned : Holds p Own own
+  pub awaited : Holds p Await await
+  pub cached : Holds p Keep keep
+  pub sending : Holds p Send send
 
 -- the words of the leases
 abbrev pub contents : Memory → List (Option ℕ) → List (Option (List ℕ))

@@ -1,6 +1,7 @@
 //! Block memory in slots under leases.
 #![tactic(auto, using(crate::proofs::Laws::all))]
 
+mod copies;
 mod how;
 mod lease;
 mod lifted;
@@ -11,9 +12,10 @@ mod rows;
 mod slots;
 mod state;
 
+pub use copies::{copy_between, copy_front};
 pub use how::How;
 pub use lease::{Awaiting, Cached, Owned, Sending};
 pub use lifted::Lifted;
 pub use out_of_memory::OutOfMemory;
-pub use pool::{Pool, copy_between, copy_front};
+pub use pool::Pool;
 pub use state::State;
