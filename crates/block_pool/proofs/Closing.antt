@@ -1,12 +1,14 @@
 -- One lease less.
-use Rattle.std.proofs.Common.{◌≡◌, ℕ, List, [], ◌∷◌, ◌++◌, refl, ◌∙◌, arith, Option, Some, None}
+use Rattle.std.proofs.Common.{◌≡◌, ◌≢◌, ℕ, List, [], ◌∷◌, ◌++◌, refl, ◌∙◌, arith, Option, Some, None}
 use Rattle.std.specs.Prelude.{IfNone}
 use Rattle.std.specs.Option.{ForSome}
-use Rattle.block_pool.specs.declared.state.State.TheVariants.{Free}
+use Rattle.block_pool.specs.declared.state.State.TheVariants.{Free, Own}
+use Rattle.block_pool.specs.declared.state.State.{State}
 use Rattle.block_pool.specs.Memory.{Memory, words_at, names}
-use Rattle.block_pool.specs.Changes.{Writes}
-use Rattle.block_pool.specs.Standing.{Closing}
-use Rattle.block_pool.proofs.Frames.{pop_holds, pop_frames, pop_none_holds, pop_none_frames, frames_then, last_lease, named_count-push, named_count-push_none}
+use Rattle.block_pool.specs.Changes.{Stands, Writes}
+use Rattle.block_pool.specs.Standing.{Holds, Frames, Closing}
+use Rattle.block_pool.proofs.Frames.{frames_other, frames_refl, pop_holds, pop_frames, pop_none_holds, pop_none_frames, frames_then, last_lease, named_count-push, named_count-push_none}
+use Rattle.block_pool.proofs.Leases.{others, keep_refl}
 use Rattle.block_pool.proofs.Counting.{memory_after, gave_back_any}
 
 -- one of the leases is given back
@@ -38,3 +40,28 @@ closing_step old p p1 all xs front None k is gave none =
       groups = k1.groups;
       free = λ class. rw (← named_count-push_none old class front) (k1.free class);
     })
+
+-- what a lease that may not be there holds, given back
+module _ (p p1 : Memory) (s0 : State) where
+  -- leases of another kind
+  pub kept_beside : (o : Option ℕ) → ForSome o (λ slot. Writes p p1 slot Free (words_at p.words slot)) → IfNone o (p1 ≡ p) → ForSome o (Stands p s0)
+      → {s : State} → s0 ≢ s → (xs : List (Option ℕ)) → Holds p s xs → Holds p1 s xs
+  kept_beside (Some t) gave none st ne xs h = (others (gave t refl).changes (st t refl) ne (keep_refl xs h)).holds
+  kept_beside None gave none st ne xs h = rw none h
+
+  -- owned leases of others, where another kind was given back
+  pub frames_beside : (o : Option ℕ) → ForSome o (λ slot. Writes p p1 slot Free (words_at p.words slot)) → IfNone o (p1 ≡ p) → ForSome o (Stands p s0)
+      → s0 ≢ Own → (xs : List (Option ℕ)) → Frames p p1 xs xs
+  frames_beside (Some t) gave none st ne xs = frames_other (gave t refl).changes xs (st t refl) ne
+  frames_beside None gave none st ne xs = rw none (frames_refl xs)
+
+  -- the last of the leases
+  pub holds_popped : (o : Option ℕ) → ForSome o (λ slot. Writes p p1 slot Free (words_at p.words slot)) → IfNone o (p1 ≡ p)
+      → (front : List (Option ℕ)) → Holds p s0 (front ++ o ∷ []) → Holds p1 s0 front
+  holds_popped (Some t) gave none front h = pop_holds (gave t refl).changes front h
+  holds_popped None gave none front h = rw none (pop_none_holds front h)
+
+  pub frames_popped : (o : Option ℕ) → ForSome o (λ slot. Writes p p1 slot Free (words_at p.words slot)) → IfNone o (p1 ≡ p)
+      → (front : List (Option ℕ)) → Frames p p1 (front ++ o ∷ []) front
+  frames_popped (Some t) gave none front = pop_frames (gave t refl).changes front
+  frames_popped None gave none front = rw none (pop_none_frames front)

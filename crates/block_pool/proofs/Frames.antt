@@ -6,9 +6,9 @@ use Rattle.block_pool.specs.declared.state.State.{State}
 use Rattle.block_pool.specs.declared.state.State.TheVariants.{Free, Own, Await, Keep, Send, Lift}
 use Rattle.block_pool.specs.Memory.{Memory, words_at, state_at, names, one_if}
 use Rattle.block_pool.specs.Changes.{Changes, Stands}
-use Rattle.block_pool.specs.Standing.{Holds, Keeps, NoShared, Frames, FramesAll, lease_at, named_count}
+use Rattle.block_pool.specs.Standing.{Holds, Keeps, StandsIn, NoShared, Frames, FramesAll, lease_at, named_count}
 use Rattle.block_pool.proofs.OneChange.{stands_other, words_other}
-use Rattle.block_pool.proofs.Leases.{holds_along, same_reading, others, lease_within}
+use Rattle.block_pool.proofs.Leases.{holds_along, same_reading, others, lease_within, keep_refl}
 
 -- a slot of another kind, or of an owned list, changes
 module _ {p p1 : Memory} {t : ℕ} {s1 : State} {w : List ℕ} (ch : Changes p p1 t s1 w) (xs : List (Option ℕ)) where
@@ -136,4 +136,13 @@ frames_cleared {p} {p1} {t} ch xs i here = record {
       ];
     },
   );
+}
+
+-- a value still stands in the pool, after a call that wrote its owned slots alone
+pub stands_in_after : {p p1 : Memory} {own ys await keep send : List (Option ℕ)} → FramesAll p p1 own → Holds p1 Own ys → StandsIn p own await keep send → StandsIn p1 ys await keep send
+stands_in_after {p} {p1} {own} {ys} {await} {keep} {send} f h st = record {
+  owned = h;
+  awaited = (f.all_stay Await _ _ (λ e. absurd cc) (λ e. absurd cc) (keep_refl await st.awaited)).holds;
+  cached = (f.all_stay Keep _ _ (λ e. absurd cc) (λ e. absurd cc) (keep_refl keep st.cached)).holds;
+  sending = (f.all_stay Send _ _ (λ e. absurd cc) (λ e. absurd cc) (keep_refl send st.sending)).holds;
 }

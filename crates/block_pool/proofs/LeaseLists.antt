@@ -1,11 +1,11 @@
 -- Leases read from elements of other lists.
-use Rattle.std.proofs.Common.{◌≡◌, ℕ, ◌<◌, List, [], ◌∷◌, ◌++◌, ◌+◌, ◌-◌, set, length, map, get_or, ap, sym, ◌∙◌, arith, Option, Some, None}
+use Rattle.std.proofs.Common.{◌≡◌, ℕ, ◌<◌, List, [], ◌∷◌, ◌++◌, ◌+◌, ◌-◌, set, length, map, get_or, refl, ap, sym, ◌∙◌, arith, Option, Some, None}
 use Rattle.std.specs.List.{remove}
 use Rattle.std.specs.Option.{unwrap_or}
 use Rattle.std.proofs.lemmas.List.{get_or-map, map_push, get_or_append_left, get_or-append-add, get_or_default, set-append_right, length-map}
 use Rattle.block_pool.specs.declared.state.State.{State}
 use Rattle.block_pool.specs.Memory.{Memory, words_at}
-use Rattle.block_pool.specs.Standing.{Keeps, Named, lease_at, contents, words_of}
+use Rattle.block_pool.specs.Standing.{Holds, Keeps, Named, Frames, lease_at, contents, words_of}
 use Rattle.block_pool.proofs.Leases.{map-remove, read_words}
 
 -- the lease of an element that was read
@@ -55,3 +55,21 @@ second_set firsts seconds i v =
 -- a place that was read
 pub place_read : (xs : List (Option ℕ)) (i t : ℕ) (o : Option ℕ) → i < length xs → o ≡ get_or xs i o → o ≡ Some t → lease_at xs i ≡ Some t
 place_read xs i t o within read some = get_or_default xs i None o within ∙ (sym read ∙ some)
+
+-- a place of an array that was read
+pub place_is : (xs : List (Option ℕ)) (i t : ℕ) (o : Option ℕ) → i < length xs → get_or xs i o ≡ Some t → lease_at xs i ≡ Some t
+place_is xs i t o within some = get_or_default xs i None o within ∙ some
+
+-- an array of two that was taken apart
+pub two_places : (xs : List (Option ℕ)) (a b : Option ℕ) → length xs ≡ 2 → a ≡ get_or xs 0 a → b ≡ get_or xs 1 b → xs ≡ a ∷ b ∷ []
+two_places [] a b len is_a is_b = absurd (omega arith)
+two_places (x ∷ []) a b len is_a is_b = absurd (omega arith)
+two_places (x ∷ y ∷ []) a b len is_a is_b = rw (is_a, is_b) refl
+two_places (x ∷ y ∷ z ∷ zs) a b len is_a is_b = absurd (omega arith)
+
+-- the leases of such an array
+pub holds_two : {p : Memory} {s : State} {a b : Option ℕ} (xs : List (Option ℕ)) → Holds p s xs → length xs ≡ 2 → a ≡ get_or xs 0 a → b ≡ get_or xs 1 b → Holds p s (a ∷ b ∷ [])
+holds_two {p} {s} {a} {b} xs h len is_a is_b = rw (← two_places xs a b len is_a is_b) h
+
+pub frames_two : {old new : Memory} {a b : Option ℕ} {ys : List (Option ℕ)} (xs : List (Option ℕ)) → Frames old new (a ∷ b ∷ []) ys → length xs ≡ 2 → a ≡ get_or xs 0 a → b ≡ get_or xs 1 b → Frames old new xs ys
+frames_two {old} {new} {a} {b} {ys} xs f len is_a is_b = rw (two_places xs a b len is_a is_b) f

@@ -19,3 +19,6 @@ pub use lifted::Lifted;
 pub use out_of_memory::OutOfMemory;
 pub use pool::Pool;
 pub use state::State;
+
+#[cfg(test)]
+mod tests;
