@@ -272,3 +272,7 @@ holds_none p s n = record {
 -- empty places share nothing
 pub none_shared : (n : ℕ) (zs : List (Option ℕ)) → NoShared (replicate n None) zs
 none_shared n zs = record { differ = λ i j x a b. none_there n i x a }
+
+-- sharing nothing goes both ways
+pub no_shared_swap : {xs zs : List (Option ℕ)} → NoShared xs zs → NoShared zs xs
+no_shared_swap n = record { differ = λ i j x a b. n.differ j i x b a }

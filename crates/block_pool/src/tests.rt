@@ -1,15 +1,16 @@
 //! A worker and a home with leases in one pool, and what only a run shows.
 
-ghost use Rattle.std.specs.Prelude.{◌≡◌, ◌<◌, ℕ, List, Option, [], ◌∷◌, length, IfNone};
+ghost use Rattle.std.specs.Prelude.{◌≡◌, ◌<◌, ◌≤◌, ℕ, List, Option, [], ◌∷◌, length, IfNone};
 ghost use Rattle.std.specs.Option.{ForSome};
 ghost use Rattle.block_pool.specs.Memory.{Memory, words_at};
 ghost use Rattle.block_pool.specs.Changes.{Stands, Writes, HasWidth};
+ghost use Rattle.block_pool.specs.Mixed.{mixed};
 ghost use Rattle.block_pool.specs.Standing.{Holds, StandsIn, NoShared, Frames, FramesAll};
 
 use std::mem::replace;
 use std::test::Fail;
 
-use crate::{Cached, Owned, Pool, Sending, State};
+use crate::{Cached, How, Owned, Pool, Sending, State, copy_front};
 
 /// A worker's leases: blocks by place, a cached block and one on its way.
 struct Worker {
@@ -123,11 +124,11 @@ fn take_at(pool: &mut Pool, class: u32, blocks: &mut [Option<Owned>], at: usize)
     }
 }
 
-// A block on its way is set into a block of another holder in the same pool.
-fn deliver(worker: &Worker, home: &[Option<Owned>], pool: &mut Pool, at: usize, len: u32)
+// A block on its way meets a block of another holder in the same pool.
+fn deliver(worker: &Worker, home: &[Option<Owned>], pool: &mut Pool, at: usize, len: u32, how: How)
     requires worker { StandsIn pool.old worker.now.blocks [] (worker.now.cached ∷ []) (worker.now.put ∷ []) }
     requires home { Holds pool.old State.Own home.now }
-    requires apart { NoShared home.now worker.now.blocks }
+    requires apart { NoShared worker.now.blocks home.now }
     requires at { at < length home.now }
     ensures worker { StandsIn pool.new worker.now.blocks [] (worker.now.cached ∷ []) (worker.now.put ∷ []) }
     ensures home { Holds pool.new State.Own home.now }
@@ -136,9 +137,23 @@ fn deliver(worker: &Worker, home: &[Option<Owned>], pool: &mut Pool, at: usize, 
         if let Some(into) = &home[at] {
             let least = pool.sending(from).len().min(pool.words(into).len());
             if len as usize <= least {
-                pool.set_within(from, into, len);
+                meet(pool, from, into, len, how);
             }
         }
+    }
+}
+
+fn meet(pool: &mut Pool, from: &Sending, into: &Owned, len: u32, how: How)
+    requires from { Stands pool.old State.Send from.now }
+    requires into { Stands pool.old State.Own into.now }
+    requires from_len { len ≤ length (words_at pool.old.words from.now) }
+    requires into_len { len ≤ length (words_at pool.old.words into.now) }
+    ensures { Writes pool.old pool.new into.now State.Own (mixed how len (words_at pool.old.words into.now) (words_at pool.old.words from.now)) }
+{
+    match how {
+        How::Set => pool.set_within(from, into, len),
+        How::Add => pool.add_within(from, into, len),
+        How::Greatest => pool.greatest_within(from, into, len),
     }
 }
 
@@ -203,9 +218,149 @@ fn end_put(pool: &mut Pool, place: Option<Sending>)
     }
 }
 
+// The worker takes, writes, sends and asks, beside a home in the same pool.
+fn work(worker: &mut Worker, home: &[Option<Owned>], pool: &mut Pool)
+    requires worker { StandsIn pool.old worker.old.blocks [] (worker.old.cached ∷ []) (worker.old.put ∷ []) }
+    requires home { Holds pool.old State.Own home.now }
+    requires apart { NoShared worker.old.blocks home.now }
+    requires wide { HasWidth pool.old 16 2 }
+    ensures worker { StandsIn pool.new worker.new.blocks [] (worker.new.cached ∷ []) (worker.new.put ∷ []) }
+    ensures home { Holds pool.new State.Own home.now }
+    ensures apart { NoShared worker.new.blocks home.now }
+{
+    worker.take(pool, 16, 0);
+    worker.write(pool, 0, 7);
+    worker.send(pool, 0, 2);
+    worker.ask(pool, 16, &[5]);
+}
+
+// The words of a block by place.
+fn words_of<'a>(pool: &'a Pool, blocks: &[Option<Owned>], at: usize) -> Option<&'a [u64]>
+    requires holds { Holds pool.now State.Own blocks.now }
+    requires at { at < length blocks.now }
+{
+    match &blocks[at] {
+        Some(lease) => Some(pool.words(lease)),
+        None => None,
+    }
+}
+
+// The words of the block on its way.
+fn words_sent<'a>(pool: &'a Pool, worker: &Worker) -> Option<&'a [u64]>
+    requires { StandsIn pool.now worker.now.blocks [] (worker.now.cached ∷ []) (worker.now.put ∷ []) }
+{
+    match &worker.put {
+        Some(lease) => Some(pool.sending(lease)),
+        None => None,
+    }
+}
+
 #[test]
-fn opens(rt: HostRuntime) -> Result<(), Fail> {
-    let pool = Pool::open(rt.alloc(), 3, 2)?;
+fn a_sending_slot_keeps_its_words_while_all_others_come_and_go(
+    rt: HostRuntime,
+) -> Result<(), Fail> {
+    let mut pool = Pool::open(rt.alloc(), 3, 2)?;
+    let mut worker = Worker::new();
+    worker.take(&mut pool, 16, 0);
+    worker.write(&mut pool, 0, 7);
+    worker.send(&mut pool, 0, 2);
+    worker.give(&mut pool, 0);
+    worker.take(&mut pool, 16, 0);
+    worker.take(&mut pool, 16, 1);
+    worker.write(&mut pool, 0, 8);
+    worker.write(&mut pool, 1, 9);
+    assert_eq!(rt; pool.free(), 0);
+    assert!(rt; words_sent(&pool, &worker) == Some([7, 7].as_slice()));
+    worker.give(&mut pool, 0);
+    worker.give(&mut pool, 1);
+    assert_eq!(rt; pool.free(), 2);
+    assert!(rt; words_sent(&pool, &worker) == Some([7, 7].as_slice()));
+    close(worker, &mut pool);
     assert_eq!(rt; pool.free(), 3);
+    Ok(())
+}
+
+#[test]
+fn two_classes_run_out_one_by_one(rt: HostRuntime) -> Result<(), Fail> {
+    let mut slots = [0; 17];
+    let mut widths = [0; 17];
+    (slots[0], widths[0]) = (1, 1);
+    (slots[3], widths[3]) = (2, 6);
+    let mut pool = Pool::open_classes(rt.alloc(), &slots, &widths)?;
+    let mut worker = Worker::new();
+    assert!(rt; [pool.free_in(0), pool.free_in(1), pool.free_in(3)] == [1, 0, 2]);
+    worker.take(&mut pool, 0, 0);
+    assert!(rt; words_of(&pool, &worker.blocks, 0) == Some([0].as_slice()));
+    worker.take(&mut pool, 0, 1);
+    assert!(rt; words_of(&pool, &worker.blocks, 1).is_none());
+    assert!(rt; [pool.free_in(0), pool.free_in(1), pool.free_in(3)] == [0, 0, 2]);
+    worker.take(&mut pool, 3, 1);
+    assert!(rt; words_of(&pool, &worker.blocks, 1) == Some([0; 6].as_slice()));
+    worker.give(&mut pool, 0);
+    worker.take(&mut pool, 3, 0);
+    assert!(rt; [pool.free_in(0), pool.free_in(1), pool.free_in(3)] == [1, 0, 0]);
+    close(worker, &mut pool);
+    assert!(rt; [pool.free_in(0), pool.free_in(1), pool.free_in(3)] == [1, 0, 2]);
+    Ok(())
+}
+
+#[test]
+fn a_put_is_delivered_to_a_home_in_the_same_pool(rt: HostRuntime) -> Result<(), Fail> {
+    let mut pool = Pool::open(rt.alloc(), 4, 2)?;
+    let mut home = [None, None];
+    take_at(&mut pool, 16, &mut home, 0);
+    let mut worker = Worker::new();
+    work(&mut worker, &home, &mut pool);
+    assert_eq!(rt; pool.free(), 0);
+    assert!(rt; words_of(&pool, &home, 0) == Some([0, 0].as_slice()));
+    deliver(&worker, &home, &mut pool, 0, 2, How::Add);
+    deliver(&worker, &home, &mut pool, 0, 1, How::Add);
+    assert!(rt; words_of(&pool, &home, 0) == Some([14, 7].as_slice()));
+    deliver(&worker, &home, &mut pool, 0, 2, How::Greatest);
+    assert!(rt; words_of(&pool, &home, 0) == Some([14, 7].as_slice()));
+    deliver(&worker, &home, &mut pool, 0, 1, How::Set);
+    assert!(rt; words_of(&pool, &home, 0) == Some([7, 7].as_slice()));
+    close(worker, &mut pool);
+    assert_eq!(rt; pool.free(), 3);
+    end_blocks(&mut pool, home);
+    assert_eq!(rt; pool.free(), 4);
+    Ok(())
+}
+
+#[test]
+fn a_lifted_slot_is_zeros_apart_from_the_pool(rt: HostRuntime) -> Result<(), Fail> {
+    let mut slots = [0; 17];
+    let mut widths = [0; 17];
+    (slots[0], widths[0]) = (1, 1);
+    (slots[3], widths[3]) = (2, 6);
+    let mut pool = Pool::open_classes(rt.alloc(), &slots, &widths)?;
+    assert_eq!(rt; pool.free_in(3), 2);
+    let mut lifted = pool.lift();
+    assert!(rt; lifted.words() == [0; 6].as_slice());
+    lifted.words_mut().fill(5);
+    assert!(rt; lifted.words() == [5; 6].as_slice());
+    assert_eq!(rt; pool.free_in(3), 1);
+    pool.lower(lifted);
+    assert_eq!(rt; pool.free_in(3), 2);
+    Ok(())
+}
+
+#[test]
+fn a_copy_goes_into_another_pool(rt: HostRuntime) -> Result<(), Fail> {
+    let mut one = Pool::open(rt.alloc(), 1, 3)?;
+    let mut two = Pool::open(rt.alloc(), 2, 3)?;
+    assert_eq!(rt; one.free(), 1);
+    assert_eq!(rt; two.free(), 2);
+    let block = one.take();
+    one.words_mut(&block).fill(6);
+    let into = two.take();
+    let into = two.expect(into);
+    copy_front(&one, &block, &mut two, &into, 2);
+    let cached = two.arrive(into);
+    assert!(rt; two.cached(&cached) == [6, 6, 0].as_slice());
+    one.give(block);
+    two.drop_cached(cached);
+    assert_eq!(rt; one.free(), 1);
+    assert_eq!(rt; two.free(), 2);
     Ok(())
 }
