@@ -2,7 +2,7 @@ use Rattle.std.proofs.Common.{◌<◌, List, [], ◌∷◌, length, arith}
 use Rattle.block_pool.proofs.OneChange.{changes_twice}
 use Rattle.block_pool.proofs.Leases.{others, placed, keep_refl}
 use Rattle.block_pool.proofs.Frames.{frames_other}
-use Rattle.block_pool.proofs.tests.Worker.ask.Goals as goal
+use Rattle.block_pool.proofs.tests.worker.Worker.ask.Goals as goal
 
 pub returns-in_default-clause-stands : goal.returns-in_default-clause-stands
 returns-in_default-clause-stands c =

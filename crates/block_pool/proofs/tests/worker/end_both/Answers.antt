@@ -2,7 +2,7 @@ use Rattle.std.proofs.Common.{[], ◌∷◌}
 use Rattle.block_pool.specs.declared.state.State.TheVariants.{Own}
 use Rattle.block_pool.proofs.Closing.{holds_popped, frames_popped}
 use Rattle.block_pool.proofs.Frames.{frames_then}
-use Rattle.block_pool.proofs.tests.end_both.Goals as goal
+use Rattle.block_pool.proofs.tests.worker.end_both.Goals as goal
 
 pub end_block-requires : goal.end_block-requires
 end_block-requires c = λ x e. c.requires.stands 1 x e

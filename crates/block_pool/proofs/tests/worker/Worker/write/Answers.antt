@@ -6,7 +6,7 @@ use Rattle.block_pool.proofs.OneChange.{refilled_changes}
 use Rattle.block_pool.proofs.Leases.{written, keep_refl}
 use Rattle.block_pool.proofs.LeaseLists.{place_is}
 use Rattle.block_pool.proofs.Frames.{frames_own, frames_all, stands_in_after}
-use Rattle.block_pool.proofs.tests.Worker.write.Goals as goal
+use Rattle.block_pool.proofs.tests.worker.Worker.write.Goals as goal
 
 pub words_mut-requires : goal.words_mut-requires
 words_mut-requires c =

@@ -2,7 +2,7 @@ use Rattle.std.proofs.Common.{[], ◌∷◌}
 use Rattle.block_pool.specs.declared.state.State.TheVariants.{Keep, Send}
 use Rattle.block_pool.proofs.Closing.{kept_beside, frames_beside}
 use Rattle.block_pool.proofs.Frames.{frames_then}
-use Rattle.block_pool.proofs.tests.close.Goals as goal
+use Rattle.block_pool.proofs.tests.worker.close.Goals as goal
 
 pub end_put-requires : goal.end_put-requires
 end_put-requires c = λ x e. c.requires.sending.stands 0 x e

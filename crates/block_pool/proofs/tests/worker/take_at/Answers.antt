@@ -2,7 +2,7 @@ use Rattle.std.proofs.Common.{ap}
 use Rattle.block_pool.proofs.Counting.{width_after}
 use Rattle.block_pool.proofs.Leases.{placed, keep_refl}
 use Rattle.block_pool.proofs.Frames.{frames_placed, frames_all_free}
-use Rattle.block_pool.proofs.tests.take_at.Goals as goal
+use Rattle.block_pool.proofs.tests.worker.take_at.Goals as goal
 
 pub returns-in_default-clause-holds : goal.returns-in_default-clause-holds
 returns-in_default-clause-holds c =

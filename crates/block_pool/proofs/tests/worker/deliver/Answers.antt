@@ -4,7 +4,7 @@ use Rattle.block_pool.proofs.Leases.{written, keep_refl, no_shared_swap}
 use Rattle.block_pool.proofs.LeaseLists.{place_read}
 use Rattle.block_pool.proofs.Frames.{frames_all}
 use Rattle.block_pool.specs.declared.state.State.TheVariants.{Own, Await, Keep, Send}
-use Rattle.block_pool.proofs.tests.deliver.Goals as goal
+use Rattle.block_pool.proofs.tests.worker.deliver.Goals as goal
 
 pub sending-requires : goal.sending-requires
 sending-requires c = c.requires.worker.sending.stands 0 c.in-Some.from c.in-Some.is

@@ -1,6 +1,6 @@
 use Rattle.block_pool.proofs.Leases.{keep_refl}
 use Rattle.block_pool.proofs.Frames.{frames_then}
-use Rattle.block_pool.proofs.tests.work.Goals as goal
+use Rattle.block_pool.proofs.tests.worker.work.Goals as goal
 
 pub send-requires-clause-wide : goal.send-requires-clause-wide
 send-requires-clause-wide c = c.write.ensures.wide 16 2 (c.take.ensures.wide 16 2 c.requires.wide)

@@ -3,7 +3,7 @@ use Rattle.block_pool.specs.Standing.{lease_at}
 use Rattle.block_pool.proofs.Leases.{cleared, keep_refl}
 use Rattle.block_pool.proofs.LeaseLists.{place_is}
 use Rattle.block_pool.proofs.Frames.{frames_cleared, frames_all, stands_in_after}
-use Rattle.block_pool.proofs.tests.Worker.give.Goals as goal
+use Rattle.block_pool.proofs.tests.worker.Worker.give.Goals as goal
 
 pub give-requires : goal.give-requires
 give-requires c =

@@ -1,6 +1,6 @@
 use Rattle.std.proofs.Common.{rules}
 use Rattle.block_pool.proofs.LeaseLists.{holds_two, frames_two}
-use Rattle.block_pool.proofs.tests.end_blocks.Goals as goal
+use Rattle.block_pool.proofs.tests.worker.end_blocks.Goals as goal
 
 pub end_both-requires : goal.end_both-requires
 end_both-requires c = holds_two c.args.blocks c.requires (search rules) (search rules) (search rules)

@@ -2,7 +2,7 @@ use Rattle.std.proofs.Common.{rules, ◌<◌, [], ◌∷◌, length, arith}
 use Rattle.block_pool.proofs.Leases.{others, placed, keep_refl}
 use Rattle.block_pool.proofs.LeaseLists.{place_is}
 use Rattle.block_pool.proofs.Frames.{frames_other}
-use Rattle.block_pool.proofs.tests.Worker.send.Goals as goal
+use Rattle.block_pool.proofs.tests.worker.Worker.send.Goals as goal
 
 pub words-requires : goal.words-requires
 words-requires c =
