@@ -61,6 +61,7 @@ module _ (p p1 : Memory) (s0 : State) where
   holds_popped (Some t) gave none front h = pop_holds (gave t refl).changes front h
   holds_popped None gave none front h = rw none (pop_none_holds front h)
 
+  -- others keep what they hold
   pub frames_popped : (o : Option ℕ) → ForSome o (λ slot. Writes p p1 slot Free (words_at p.words slot)) → IfNone o (p1 ≡ p)
       → (front : List (Option ℕ)) → Frames p p1 (front ++ o ∷ []) front
   frames_popped (Some t) gave none front = pop_frames (gave t refl).changes front

@@ -12,9 +12,11 @@ use Rattle.block_pool.proofs.Leases.{holds_along, same_reading, others, lease_wi
 
 -- a slot of another kind, or of an owned list, changes
 module _ {p p1 : Memory} {t : ℕ} {s1 : State} {w : List ℕ} (ch : Changes p p1 t s1 w) (xs : List (Option ℕ)) where
+  -- a slot of another kind
   pub frames_other : {s0 : State} → Stands p s0 t → s0 ≢ Own → Frames p p1 xs xs
   frames_other st ne = record { others_stay = λ zs ws apart k. (others ch st ne k, apart) }
 
+  -- a slot of the list itself
   pub frames_own : (i : ℕ) → lease_at xs i ≡ Some t → Frames p p1 xs xs
   frames_own i here = record {
     others_stay = λ zs ws apart k.
@@ -35,6 +37,7 @@ frames_refl xs = record { others_stay = λ zs ws apart k. (k, apart) }
 pub frames_then : {p p1 p2 : Memory} {xs ys vs : List (Option ℕ)} → Frames p p1 xs ys → Frames p1 p2 ys vs → Frames p p2 xs vs
 frames_then a b = record { others_stay = λ zs ws apart k. let r = a.others_stay zs ws apart k in b.others_stay zs ws r.1 r.0 }
 
+-- a lease of the front
 front_lease : (front : List (Option ℕ)) (o : Option ℕ) (j x : ℕ) → lease_at front j ≡ Some x → lease_at (front ++ o ∷ []) j ≡ Some x
 front_lease front o j x e = get_or_append_left front (o ∷ []) None j (lease_within front j x e) ∙ e
 
@@ -42,6 +45,7 @@ front_lease front o j x e = get_or_append_left front (o ∷ []) None j (lease_wi
 pub last_lease : (front : List (Option ℕ)) (o : Option ℕ) → lease_at (front ++ o ∷ []) (length front) ≡ o
 last_lease front o = get_or_push front o None (length front) refl
 
+-- the front shares nothing more
 front_apart : (front : List (Option ℕ)) (o : Option ℕ) (zs : List (Option ℕ)) → NoShared (front ++ o ∷ []) zs → NoShared front zs
 front_apart front o zs n = record { differ = λ i j slot a b. n.differ i j slot (front_lease front o i slot a) b }
 
@@ -49,6 +53,7 @@ front_apart front o zs n = record { differ = λ i j slot a b. n.differ i j slot 
 pub pop_none_holds : {p : Memory} {s : State} (front : List (Option ℕ)) → Holds p s (front ++ None ∷ []) → Holds p s front
 pop_none_holds front h = holds_along (front ++ None ∷ []) front (λ j. j) (λ j k e. e) (λ j x e. (front_lease front None j x e, λ q. q)) h
 
+-- and shares nothing more
 pub pop_none_frames : {p : Memory} (front : List (Option ℕ)) → Frames p p (front ++ None ∷ []) front
 pop_none_frames front = record { others_stay = λ zs ws apart k. (k, front_apart front None zs apart) }
 
@@ -64,6 +69,7 @@ pop_holds {p} {p1} {t} {s} {s1} {w} ch front h =
         let within : j < length front = lease_within front j x e in
         omega arith
 
+-- and others keep what they hold
 pub pop_frames : {p p1 : Memory} {t : ℕ} {s1 : State} {w : List ℕ} → Changes p p1 t s1 w → (front : List (Option ℕ)) → Frames p p1 (front ++ Some t ∷ []) front
 pop_frames {p} {p1} {t} {s1} {w} ch front = record {
   others_stay = λ zs ws apart k.
@@ -77,6 +83,7 @@ named_count-push p class [] t = omega arith
 named_count-push p class (None ∷ xs) t = named_count-push p class xs t
 named_count-push p class (Some x ∷ xs) t = omega (arith, named_count-push p class xs t)
 
+-- one empty place more
 pub named_count-push_none : (p : Memory) (class : ℕ) (front : List (Option ℕ)) → named_count p class (front ++ None ∷ []) ≡ named_count p class front
 named_count-push_none p class [] = refl
 named_count-push_none p class (None ∷ xs) = named_count-push_none p class xs

@@ -14,6 +14,7 @@ free_slots-set k (c ∷ cs) [] t s h l = absurd (omega arith)
 free_slots-set k (c ∷ cs) (x ∷ ss) zero s h l = omega arith
 free_slots-set k (c ∷ cs) (x ∷ ss) (suc t) s h l = omega (arith, free_slots-set k cs ss t s (omega arith) (omega arith))
 
+-- a lower class is another one
 unequal : (c k : ℕ) → c < k → (c == k) ≡ false
 unequal c k h = grind (arith, nat_tests)
 

@@ -47,6 +47,7 @@ pub second_lease : (firsts : List ℕ) (seconds : List (Option ℕ)) (i : ℕ) (
 second_lease firsts seconds i d within =
     ap (λ n. lease_at (map Some firsts ++ seconds) (n + i)) (sym (length-map firsts Some)) ∙ (get_or-append-add (map Some firsts) seconds i None ∙ get_or_default seconds i None d within)
 
+-- a write to the second of two lists
 pub second_set : (firsts : List ℕ) (seconds : List (Option ℕ)) (i : ℕ) (v : Option ℕ) → map Some firsts ++ set seconds i v ≡ set (map Some firsts ++ seconds) (length firsts + i) v
 second_set firsts seconds i v =
     let back : length firsts + i - length firsts ≡ i = omega arith in
@@ -71,5 +72,6 @@ two_places (x ∷ y ∷ z ∷ zs) a b len is_a is_b = absurd (omega arith)
 pub holds_two : {p : Memory} {s : State} {a b : Option ℕ} (xs : List (Option ℕ)) → Holds p s xs → length xs ≡ 2 → a ≡ get_or xs 0 a → b ≡ get_or xs 1 b → Holds p s (a ∷ b ∷ [])
 holds_two {p} {s} {a} {b} xs h len is_a is_b = rw (← two_places xs a b len is_a is_b) h
 
+-- and what others hold
 pub frames_two : {old new : Memory} {a b : Option ℕ} {ys : List (Option ℕ)} (xs : List (Option ℕ)) → Frames old new (a ∷ b ∷ []) ys → length xs ≡ 2 → a ≡ get_or xs 0 a → b ≡ get_or xs 1 b → Frames old new xs ys
 frames_two {old} {new} {a} {b} {ys} xs f len is_a is_b = rw (two_places xs a b len is_a is_b) f

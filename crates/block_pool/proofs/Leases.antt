@@ -34,22 +34,26 @@ same_but f g (Some y ∷ xs) (suc k) v h =
     let rest = same_but f g xs k v (λ i x ne e. h (suc i) x (λ (z : suc i ≡ suc k). ne (omega arith)) e) in
     rw (head, rest) refl
 
+-- a place that is written and then taken out
 pub remove-set : {X : Type 0} (xs : List X) (i : ℕ) (v : X) → remove (set xs i v) i ≡ remove xs i
 remove-set [] i v = refl
 remove-set (x ∷ xs) zero v = refl
 remove-set (x ∷ xs) (suc i) v = ap (λ r. x ∷ r) (remove-set xs i v)
 
+-- what is read of a list without one element
 pub map-remove : {X Y : Type 0} (f : X → Y) (xs : List X) (i : ℕ) → map f (remove xs i) ≡ remove (map f xs) i
 map-remove f [] zero = refl
 map-remove f [] (suc i) = refl
 map-remove f (x ∷ xs) zero = refl
 map-remove f (x ∷ xs) (suc i) = ap (λ r. f x ∷ r) (map-remove f xs i)
 
+-- a lease stands at a place of the list
 pub lease_within : (xs : List (Option ℕ)) (i x : ℕ) → lease_at xs i ≡ Some x → i < length xs
 lease_within [] i x e = absurd (cc)
 lease_within (y ∷ xs) zero x e = omega arith
 lease_within (y ∷ xs) (suc i) x e = let h = lease_within xs i x e in omega arith
 
+-- a lease that was not the last one
 was_before : (xs : List (Option ℕ)) (t j x : ℕ) → j ≢ length xs → lease_at (xs ++ Some t ∷ []) j ≡ Some x → lease_at xs j ≡ Some x
 was_before [] t zero x ne e = absurd (ne refl)
 was_before [] t (suc j) x ne e = absurd (cc)
@@ -69,27 +73,32 @@ holds_along xs ys place inj from h = record {
 abbrev pub skip : ℕ → ℕ → ℕ
 skip k j = if ltb j k then j else j + 1
 
+-- a place before the gap, or after it
 skip_cases : (k j : ℕ) → ((j < k) × (skip k j ≡ j)) ⊎ ((k ≤ j) × (skip k j ≡ j + 1))
 skip_cases k j = elim (cases_Bool (ltb j k)) as (λ _. ((j < k) × (skip k j ≡ j)) ⊎ ((k ≤ j) × (skip k j ≡ j + 1))) [
   | inl low ↦ inl (ltb-true j k low, rw low refl)
   | inr high ↦ inr (ltb-false j k high, rw high refl)
 ]
 
+-- no two places come from one
 skip_apart : (k i j : ℕ) → skip k i ≡ skip k j → i ≡ j
 skip_apart k i j e = elim (skip_cases k i) as (λ _. i ≡ j) [
   | inl a ↦ elim (skip_cases k j) as (λ _. i ≡ j) [ inl b ↦ omega (arith, a.0, a.1, b.0, b.1) | inr b ↦ omega (arith, a.0, a.1, b.0, b.1) ]
   | inr a ↦ elim (skip_cases k j) as (λ _. i ≡ j) [ inl b ↦ omega (arith, a.0, a.1, b.0, b.1) | inr b ↦ omega (arith, a.0, a.1, b.0, b.1) ]
 ]
 
+-- none comes from the gap
 skip_past : (k j : ℕ) → skip k j ≢ k
 skip_past k j e = elim (skip_cases k j) as (λ _. ⊥) [ inl a ↦ omega (arith, a.0, a.1, e) | inr a ↦ omega (arith, a.0, a.1, e) ]
 
+-- what stands at a place of the shorter list
 at_skip : (xs : List (Option ℕ)) (k j : ℕ) → k < length xs → lease_at (remove xs k) j ≡ lease_at xs (skip k j)
 at_skip xs k j within = elim (skip_cases k j) as (λ _. lease_at (remove xs k) j ≡ lease_at xs (skip k j)) [
   | inl a ↦ get_or-remove_below xs k None j a.0 within ∙ ap (lease_at xs) (sym a.1)
   | inr a ↦ get_or-remove_above xs k None j a.0 within ∙ ap (lease_at xs) (sym a.1)
 ]
 
+-- a slot in another state stands at no place
 pub not_at_other : {p : Memory} {s s0 : State} {xs : List (Option ℕ)} {t : ℕ} → Holds p s xs → Stands p s0 t → s0 ≢ s → (i x : ℕ) → lease_at xs i ≡ Some x → x ≢ t
 not_at_other h st ne i x e = λ z. ne (sym st.state ∙ (ap (state_at _) (sym z) ∙ (h.stands i x e).state))
 
@@ -107,9 +116,11 @@ module _ {p p1 : Memory} {t : ℕ} {s1 : State} {w : List ℕ} (ch : Changes p p
   stays : (x : ℕ) → Stands p s1 x → Stands p1 s1 x
   stays x q = elim (cases_eq x t) [ inl e ↦ (let z : Stands p1 s1 t = stands_at ch (rw e at q) in rw e z) | inr ne ↦ stands_other ch q ne ]
 
+  -- no other place names the slot
   not_at : {s : State} {xs : List (Option ℕ)} {k : ℕ} → Holds p s xs → lease_at xs k ≡ Some t → (i x : ℕ) → i ≢ k → lease_at xs i ≡ Some x → x ≢ t
   not_at {s} {xs} {k} h here i x ne e = λ z. ne (h.apart i k t (e ∙ ap Some z) here)
 
+  -- the changed slot's words, read from the list
   read_here : {s : State} {xs : List (Option ℕ)} (k : ℕ) → Holds p s xs → lease_at xs k ≡ Some t → get_or (contents p1 xs) k None ≡ Some w
   read_here {s} {xs} k h here =
       get_or-map (option_map (words_at p1.words)) xs k None None (lease_within xs k t here)
@@ -200,21 +211,27 @@ keep_refl xs h = record { holds = h; words_are = refl }
 
 -- the same lemmas, from leases with known words
 module _ {p p1 : Memory} {t : ℕ} {s1 : State} {w : List ℕ} (ch : Changes p p1 t s1 w) {xs : List (Option ℕ)} {ws : List (Option (List ℕ))} where
+  -- leases of another kind: nothing has changed
   pub others : {s s0 : State} → Stands p s0 t → s0 ≢ s → Keeps p s xs ws → Keeps p1 s xs ws
   others {s} {s0} st ne k = let r = others_keep ch xs st ne k.holds in record { holds = r.holds; words_are = r.words_are ∙ k.words_are }
 
+  -- one lease's slot was written
   pub written : (i : ℕ) → lease_at xs i ≡ Some t → Keeps p s1 xs ws → Keeps p1 s1 xs (set ws i (Some w))
   written i here k = let r = write_keeps ch xs i here k.holds in record { holds = r.holds; words_are = r.words_are ∙ ap (λ q. set q i (Some w)) k.words_are }
 
+  -- a lease left its place
   pub cleared : {s : State} (i : ℕ) → lease_at xs i ≡ Some t → Keeps p s xs ws → Keeps p1 s (set xs i None) (set ws i None)
   cleared {s} i here k = let r = clear_keeps ch xs i here k.holds in record { holds = r.holds; words_are = r.words_are ∙ ap (λ q. set q i None) k.words_are }
 
+  -- a lease and its place left the list
   pub removed : {s : State} (i : ℕ) → lease_at xs i ≡ Some t → Keeps p s xs ws → Keeps p1 s (remove xs i) (remove ws i)
   removed {s} i here k = let r = remove_keeps ch xs i here k.holds in record { holds = r.holds; words_are = r.words_are ∙ ap (λ q. remove q i) k.words_are }
 
+  -- a slot came to an empty place
   pub placed : {s0 : State} (i : ℕ) → i < length xs → Stands p s0 t → s0 ≢ s1 → Keeps p s1 xs ws → Keeps p1 s1 (set xs i (Some t)) (set ws i (Some w))
   placed {s0} i within st ne k = let r = place_keeps ch xs i within st ne k.holds in record { holds = r.holds; words_are = r.words_are ∙ ap (λ q. set q i (Some w)) k.words_are }
 
+  -- a slot came to the end
   pub pushed : {s0 : State} → Stands p s0 t → s0 ≢ s1 → Keeps p s1 xs ws → Keeps p1 s1 (xs ++ Some t ∷ []) (ws ++ Some w ∷ [])
   pushed {s0} st ne k = let r = push_keeps ch xs st ne k.holds in record { holds = r.holds; words_are = r.words_are ∙ ap (λ q. q ++ Some w ∷ []) k.words_are }
 
@@ -257,6 +274,7 @@ named_still ch n = record { named = λ i slot e. rw (ch.classes, ch.groups) (n.n
 pub read_words : (p : Memory) (xs : List (Option ℕ)) (i t : ℕ) → lease_at xs i ≡ Some t → get_or (contents p xs) i None ≡ Some (words_at p.words t)
 read_words p xs i t here = get_or-map (option_map (words_at p.words)) xs i None None (lease_within xs i t here) ∙ ap (option_map (words_at p.words)) here
 
+-- no lease in empty places
 none_there : (n i x : ℕ) → lease_at (replicate n None) i ≡ Some x → ⊥
 none_there zero i x e = absurd (cc)
 none_there (suc n) zero x e = absurd (cc)

@@ -7,6 +7,7 @@ use Rattle.block_pool.specs.Memory.{free_slots}
 use Rattle.block_pool.specs.Laid.{members}
 use Rattle.block_pool.specs.Opened.{classes_from}
 
+-- a test beside one that holds
 and_true : (b : Bool) → (b && true) ≡ b
 and_true true = refl
 and_true false = refl
@@ -16,14 +17,17 @@ pub free_slots-replicate : (g : ℕ) (cs : List ℕ) → free_slots g cs (replic
 free_slots-replicate g [] = refl
 free_slots-replicate g (c ∷ cs) = rw (and_true (c == g), free_slots-replicate g cs) refl
 
+-- two runs
 pub members-append : (g : ℕ) (xs ys : List ℕ) → members g (xs ++ ys) ≡ members g xs + members g ys
 members-append g [] ys = omega arith
 members-append g (x ∷ xs) ys = omega (arith, members-append g xs ys)
 
+-- a run of the class
 pub members-replicate_same : (g n : ℕ) → members g (replicate n g) ≡ n
 members-replicate_same g zero = refl
 members-replicate_same g (suc n) = rw (eq-eqb g g refl, members-replicate_same g n) (omega arith)
 
+-- a run of another class
 pub members-replicate_other : (g c n : ℕ) → c ≢ g → members g (replicate n c) ≡ 0
 members-replicate_other g c zero ne = refl
 members-replicate_other g c (suc n) ne = rw (ne_eqb c g ne, members-replicate_other g c n ne) refl
@@ -36,6 +40,7 @@ members-none g (c ∷ cs) below =
     let low : c < g = below 0 (omega arith) in
     rw (ne_eqb c g (λ e. absurd (omega arith)), rest) refl
 
+-- none of a lower class
 members-before : (c g : ℕ) (ns : List ℕ) → g < c → members g (classes_from c ns) ≡ 0
 members-before c g [] h = refl
 members-before c g (n ∷ ns) h =

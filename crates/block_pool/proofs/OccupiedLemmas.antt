@@ -24,39 +24,49 @@ module _ (gs : List Group) (cs : List ℕ) (ss : List State) (tied : IsTied gs c
   abbrev after : List Group
   after = set gs g (record { first = first_of gs g; table = t })
 
+  -- the group is the new one
   group_here : group_at after g ≡ record { first = first_of gs g; table = t }
   group_here = get_or-set_same gs g _ _ known
 
+  -- the other groups are as before
   group_other : (h : ℕ) → h ≢ g → group_at after h ≡ group_at gs h
   group_other h ne = get_or-set_other gs g h _ _ ne
 
+  -- so is its slab
   table_here : table_of after g ≡ t
   table_here = ap (λ (x : Group). x.table) group_here
 
+  -- so are their slabs
   table_other : (h : ℕ) → h ≢ g → table_of after h ≡ table_of gs h
   table_other h ne = ap (λ (x : Group). x.table) (group_other h ne)
 
+  -- all runs begin as before
   same_first : (h : ℕ) → first_of after h ≡ first_of gs h
   same_first h = elim (cases_eq h g) as (λ _. first_of after h ≡ first_of gs h) [
     | inl e ↦ rw e (ap (λ (x : Group). x.first) group_here)
     | inr ne ↦ ap (λ (x : Group). x.first) (group_other h ne)
   ]
 
+  -- and are as long
   same_room : (h : ℕ) → room_of after h ≡ room_of gs h
   same_room h = elim (cases_eq h g) as (λ _. room_of after h ≡ room_of gs h) [
     | inl e ↦ rw e (ap (λ (x : Group). x.table.capacity) group_here ∙ room)
     | inr ne ↦ ap (λ (x : Group). x.table.capacity) (group_other h ne)
   ]
 
+  -- it is a slot
   within : slot < length cs
   within = tied.within g k known key
 
+  -- with a state
   listed : slot < length ss
   listed = let h = within in omega (arith, tied.listed, h)
 
+  -- of the class
   class_here : get_or cs slot 0 ≡ g
   class_here = tied.named g k known key
 
+  -- each key tells whether its slot is free
   taken_after : (h j : ℕ) → h < length gs → j < room_of gs h → is_some (get (table_of after h) j) ≡ not (is_free (state_at (set ss slot s) (first_of gs h + j)))
   taken_after h j kh kj = elim (cases_eq h g) as (λ _. is_some (get (table_of after h) j) ≡ not (is_free (state_at (set ss slot s) (first_of gs h + j)))) [
     | inl e ↦ elim (cases_eq j k) as (λ _. is_some (get (table_of after h) j) ≡ not (is_free (state_at (set ss slot s) (first_of gs h + j)))) [
@@ -73,6 +83,7 @@ module _ (gs : List Group) (cs : List ℕ) (ss : List State) (tied : IsTied gs c
         )
   ]
 
+  -- and the counts add up
   count_after : (h : ℕ) → h < length gs → slab_len (table_of after h) + free_slots h cs (set ss slot s) ≡ room_of gs h
   count_after h kh =
       let change = free_slots-set h cs ss slot s within listed in
@@ -93,6 +104,7 @@ module _ (gs : List Group) (cs : List ℕ) (ss : List State) (tied : IsTied gs c
             )
       ]
 
+  -- the slabs still tell what is taken
   pub tied_after : IsTied after cs (set ss slot s)
   tied_after = record {
     listed = rw length-set tied.listed;
@@ -146,30 +158,39 @@ has_room gs cs ss g v tied some read =
 -- a free slot was taken
 module _ (gs : List Group) (cs : List ℕ) (ss : List State) (g key : ℕ) (v : Group) (t : Slab (Unit {0})) (tied : IsTied gs cs ss)
     (some : 0 < free_slots g cs ss) (read : v ≡ get_or gs g v) (vacant : get v.table key ≡ None) (low : key < t.capacity) (room : t.capacity ≡ v.table.capacity) where
+  -- the class is known
   known : g < length gs
   known = known_class gs cs ss g tied some
 
+  -- the group that was read
   group_is : v ≡ group_at gs g
   group_is = group_read gs g v known read
 
+  -- the key is one of the run
   key_low : key < room_of gs g
   key_low = let same : t.capacity ≡ room_of gs g = room ∙ ap (λ (x : Group). x.table.capacity) group_is in omega arith
 
+  -- so the slot is one of the run
   same_slot : v.first + key ≡ first_of gs g + key
   same_slot = ap (λ (x : Group). x.first + key) group_is
 
+  -- it was free
   pub vacant_state : state_at ss (v.first + key) ≡ Free
   vacant_state = vacant_is_free _ (rw same_slot (sym (ap is_some (ap (λ (x : Group). get x.table key) (sym group_is) ∙ vacant)) ∙ tied.taken g key known key_low))
 
+  -- it is a slot
   pub taken_within : v.first + key < length cs
   taken_within = rw same_slot (tied.within g key known key_low)
 
+  -- with a state
   pub taken_listed : v.first + key < length ss
   taken_listed = let h = taken_within in omega (arith, tied.listed, h)
 
+  -- of the class
   pub taken_class : get_or cs (v.first + key) 0 ≡ g
   taken_class = rw same_slot (tied.named g key known key_low)
 
+  -- the slabs tell that it is taken
   pub tied_taken : (s : State) → is_free s ≡ false → Updates v.table t key (Some tt) → slab_len t ≡ slab_len v.table + 1
       → IsTied (set gs g (record { first = v.first; table = t })) cs (set ss (v.first + key) s)
   tied_taken s not_free updates longer =
@@ -182,18 +203,23 @@ module _ (gs : List Group) (cs : List ℕ) (ss : List State) (g key : ℕ) (v : 
 -- a slot that is not free
 module _ (gs : List Group) (cs : List ℕ) (ss : List State) (slot g : ℕ) (tied : IsTied gs cs ss) (within_cs : slot < length cs)
     (class_is : g ≡ get_or cs slot 0) (held : is_free (state_at ss slot) ≡ false) where
+  -- it is in the run of its class
   in_group : IsIn gs g slot
   in_group = rw class_is (tied.home slot within_cs)
 
+  -- its class is known
   pub held_known : g < length gs
   held_known = in_group.known
 
+  -- its key gives it back
   place : first_of gs g + (slot - first_of gs g) ≡ slot
   place = let h = in_group in omega (arith, h)
 
+  -- its key is one of the run
   place_low : slot - first_of gs g < room_of gs g
   place_low = let h = in_group in omega (arith, h)
 
+  -- its key is taken
   is_taken : is_some (get (table_of gs g) (slot - first_of gs g)) ≡ true
   is_taken = tied.taken g (slot - first_of gs g) held_known place_low ∙ rw (place, held) refl
 

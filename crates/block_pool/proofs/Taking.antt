@@ -11,9 +11,11 @@ module _ (class : ℕ) (p p1 : Memory) (slot : ℕ) (s : State) (ws : List ℕ) 
   pub taken_apart : (from : ℕ) → Stands p Own from → from ≢ slot
   taken_apart from stands = λ e. absurd (cc (ap (state_at p.states) e, stands.state, took.was.state))
 
+  -- its words
   pub words_of_taken : words_at p1.words slot ≡ ws
   words_of_taken = ap (λ (w : List (List ℕ)). words_at w slot) took.changes.words ∙ get_or-set_same p.words slot ws [] took.was.within
 
+  -- the others' words
   pub words_of_others : (from : ℕ) → from ≢ slot → words_at p1.words from ≡ words_at p.words from
   words_of_others from ne = ap (λ (w : List (List ℕ)). words_at w from) took.changes.words ∙ get_or-set_other p.words slot from ws [] ne
 

@@ -15,10 +15,12 @@ record IsFound (class widest : ℕ) (ws : List ℕ) : Type 0 where
   wide : get_or ws (widest - class) 0 ≢ 0
   above : (i : ℕ) → widest < class + i → get_or ws i 0 ≡ 0
 
+-- one width of 0 more
 zero_there : (w : ℕ) (ws : List ℕ) → w ≡ 0 → ((i : ℕ) → get_or ws i 0 ≡ 0) → (i : ℕ) → get_or (w ∷ ws) i 0 ≡ 0
 zero_there w ws e zeros zero = e
 zero_there w ws e zeros (suc i) = zeros i
 
+-- the widest class stands later
 found_later : (class widest w : ℕ) (ws : List ℕ) → IsFound (class + 1) widest ws → IsFound class widest (w ∷ ws)
 found_later class widest w ws f = record {
   from = omega (arith, f.from);
@@ -31,6 +33,7 @@ found_later class widest w ws f = record {
     above zero h = absurd (omega (arith, f.from))
     above (suc i) h = f.above i (omega arith)
 
+-- it stands here
 found_here : (class widest w : ℕ) (ws : List ℕ) → w ≢ 0 → IsUnchanged class widest ws → IsFound class widest (w ∷ ws)
 found_here class widest w ws ne u = record {
   from = omega (arith, u.same);
@@ -43,6 +46,7 @@ found_here class widest w ws ne u = record {
     above zero h = absurd (omega (arith, u.same))
     above (suc i) h = u.zeros i
 
+-- there is a widest class, or none
 widest-cases : (known class : ℕ) (ws : List ℕ) → IsUnchanged known (widest_from known class ws) ws ⊎ IsFound class (widest_from known class ws) ws
 widest-cases known class [] = inl (record { same = refl; zeros = λ i. refl })
 widest-cases known class (w ∷ ws) =

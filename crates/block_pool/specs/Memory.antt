@@ -43,6 +43,7 @@ is_free Lift = false
 abbrev pub serves : State → ℕ → ℕ → Bool
 serves s class group = (class == group) && is_free s
 
+-- 1 where a test holds, else 0
 abbrev pub one_if : Bool → ℕ
 one_if b = if b then 1 else 0
 

@@ -18,13 +18,15 @@ with_state o slot s = record o { states = slice_set o.states slot s }
 abbrev pub group_at : List Group → ℕ → Group
 group_at gs g = slice_index_or gs g (record { first = 0; table = record { slots = []; vacant_key = 0; capacity = 0 } })
 
--- the slots of a class begin at one slot, and there are so many of them
+-- where the slots of a class begin
 abbrev pub first_of : List Group → ℕ → ℕ
 first_of gs g = (group_at gs g).first
 
+-- which of them are taken
 abbrev pub table_of : List Group → ℕ → Slab (Unit {0})
 table_of gs g = (group_at gs g).table
 
+-- how many there are
 abbrev pub room_of : List Group → ℕ → ℕ
 room_of gs g = (table_of gs g).capacity
 

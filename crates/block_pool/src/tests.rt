@@ -1,8 +1,7 @@
 //! What only a run shows: openings with memory, and words at their places.
 
-use std::test::Fail;
-
 use crate::{How, Pool, copy_front};
+use std::test::Fail;
 
 mod worker;
 

@@ -5,12 +5,11 @@ ghost use Rattle.block_pool.specs.Memory.{free_in};
 ghost use Rattle.block_pool.specs.Changes.{IsMemory, HasWidth};
 ghost use Rattle.block_pool.specs.Opened.{opened, opened_classes, started, widest_of as highest_wide, IsWidest};
 
-use std::alloc::{AllocError, Global};
-
 use crate::out_of_memory::OutOfMemory;
 use crate::pool::Pool;
 use crate::rows::{width_of, zero_rows};
 use crate::slots::Slots;
+use std::alloc::{AllocError, Global};
 
 // Each class names its own slots.
 const EACH_CLASS: [u32; 17] = [0, 1, 2, 3, 4, 5, 6, 7, 8, 9, 10, 11, 12, 13, 14, 15, 16];

@@ -7,9 +7,8 @@ ghost use Rattle.block_pool.specs.Changes.{Stands, Writes, HasWidth};
 ghost use Rattle.block_pool.specs.Mixed.{mixed};
 ghost use Rattle.block_pool.specs.Standing.{Holds, StandsIn, NoShared, Frames, FramesAll};
 
-use std::mem::replace;
-
 use crate::{Cached, How, Owned, Pool, Sending, State};
+use std::mem::replace;
 
 /// A worker's leases: blocks by place, a cached block and one on its way.
 pub(super) struct Worker {
@@ -124,7 +123,14 @@ pub(super) fn take_at(pool: &mut Pool, class: u32, blocks: &mut [Option<Owned>],
 }
 
 // A block on its way meets a block of another holder in the same pool.
-pub(super) fn deliver(worker: &Worker, home: &[Option<Owned>], pool: &mut Pool, at: usize, len: u32, how: How)
+pub(super) fn deliver(
+    worker: &Worker,
+    home: &[Option<Owned>],
+    pool: &mut Pool,
+    at: usize,
+    len: u32,
+    how: How,
+)
     requires worker { StandsIn pool.old worker.now.blocks [] (worker.now.cached ∷ []) (worker.now.put ∷ []) }
     requires home { Holds pool.old State.Own home.now }
     requires apart { NoShared worker.now.blocks home.now }

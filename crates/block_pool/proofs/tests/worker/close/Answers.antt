@@ -28,6 +28,6 @@ returns c =
     let held = kept_beside _ _ Send c.args.worker.put put.some put.none (λ y f. c.requires.sending.stands 0 y f) (λ z. absurd cc) (c.args.worker.cached ∷ []) c.requires.cached in
     frames_then
     (frames_then
-     (frames_beside _ _ Send c.args.worker.put put.some put.none (λ y f. c.requires.sending.stands 0 y f) (λ z. absurd cc) c.args.worker.blocks)
-     (frames_beside _ _ Keep c.args.worker.cached cached.some cached.none (λ y f. held.stands 0 y f) (λ z. absurd cc) c.args.worker.blocks))
+    (frames_beside _ _ Send c.args.worker.put put.some put.none (λ y f. c.requires.sending.stands 0 y f) (λ z. absurd cc) c.args.worker.blocks)
+    (frames_beside _ _ Keep c.args.worker.cached cached.some cached.none (λ y f. held.stands 0 y f) (λ z. absurd cc) c.args.worker.blocks))
     c.end_blocks.ensures

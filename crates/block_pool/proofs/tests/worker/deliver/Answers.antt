@@ -1,5 +1,3 @@
-use Rattle.std.proofs.Common.{◌<◌, length, ap, arith}
-use Rattle.std.proofs.lemmas.List.{get_or-set_same}
 use Rattle.block_pool.proofs.Leases.{written, keep_refl, no_shared_swap}
 use Rattle.block_pool.proofs.LeaseLists.{place_read}
 use Rattle.block_pool.proofs.Frames.{frames_all}

@@ -1,4 +1,3 @@
-use Rattle.std.proofs.Common.{ap}
 use Rattle.block_pool.proofs.Counting.{width_after}
 use Rattle.block_pool.proofs.Leases.{placed, keep_refl}
 use Rattle.block_pool.proofs.Frames.{frames_placed, frames_all_free}

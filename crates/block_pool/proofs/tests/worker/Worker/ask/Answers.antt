@@ -1,4 +1,4 @@
-use Rattle.std.proofs.Common.{◌<◌, List, [], ◌∷◌, length, arith}
+use Rattle.std.proofs.Common.{[], ◌∷◌, arith}
 use Rattle.block_pool.proofs.OneChange.{changes_twice}
 use Rattle.block_pool.proofs.Leases.{others, placed, keep_refl}
 use Rattle.block_pool.proofs.Frames.{frames_other}

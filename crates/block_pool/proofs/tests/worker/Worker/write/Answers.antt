@@ -1,6 +1,5 @@
 use Rattle.std.proofs.Common.{rules, ◌≡◌, ◌<◌, ◌∙◌, ap, Some, ℕ, List, length}
 use Rattle.block_pool.specs.declared.state.State.TheVariants.{Own}
-use Rattle.block_pool.specs.Memory.{words_at}
 use Rattle.block_pool.specs.Standing.{lease_at}
 use Rattle.block_pool.proofs.OneChange.{refilled_changes}
 use Rattle.block_pool.proofs.Leases.{written, keep_refl}
