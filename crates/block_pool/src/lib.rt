@@ -1,5 +1,5 @@
 //! Block memory in slots under leases.
-#![tactic(auto, using(crate::proofs::Laws::all))]
+#![tactic(auto)]
 
 mod copies;
 mod how;

@@ -7,6 +7,7 @@ ghost use Rattle.block_pool.specs.Mixed.{mixed};
 use crate::how::How;
 
 // Words meet the front of others.
+#[tactic(auto, using(crate::proofs::Laws::all))]
 pub(crate) fn mix(to: &mut [u64], from: &[u64], how: How)
     requires { length from.now ≤ length to.old }
     ensures { to.new ≡ mixed how (length from.now) to.old from.now }

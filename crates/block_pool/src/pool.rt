@@ -1,17 +1,17 @@
 //! The pool: slots of words that leases name.
+#![tactic(auto, using(crate::proofs::Laws::all))]
 
 ghost use Rattle.std.specs.Prelude.{◌≡◌, ◌<◌, false};
 ghost use Rattle.std.specs.Borrow.{sem};
 ghost use Rattle.block_pool.specs.Memory.{free_in, group_of, is_free, words_at, zeros_at};
 ghost use Rattle.block_pool.specs.Changes.{Stands, StandsLifted, Changes, Writes, Takes, Lifts};
 
-use std::marker::Model;
-
 use crate::lease::Owned;
 use crate::lifted::Lifted;
 use crate::rows::Rows;
 use crate::slots::Slots;
 use crate::state::State;
+use std::marker::Model;
 
 mod opening;
 mod puts;

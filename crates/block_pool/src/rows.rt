@@ -1,4 +1,5 @@
 //! The words of the slots, all taken at the opening.
+#![tactic(auto, using(crate::proofs::Laws::all))]
 
 ghost use Rattle.std.specs.Prelude.{◌≡◌, ◌≢◌, ◌+◌, ◌≤◌, ◌<◌, ◌++◌, ℕ, [], ◌∷◌, List, length, replicate, take, slice_index, slice_set, IfOk, OnOk};
 ghost use Rattle.std.specs.Borrow.{sem};
