@@ -1,3 +1,4 @@
+mod BlocksSeen
 mod FitsLemmas
 mod NumbersFrom
 mod NumbersLemmas
