@@ -1,5 +1,6 @@
 mod BlocksSeen
 mod FitsLemmas
+mod FormLaws
 mod NumbersFrom
 mod NumbersLemmas
 mod Places

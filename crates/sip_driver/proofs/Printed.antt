@@ -7,7 +7,8 @@ use Rattle.sip_driver.specs.Ran.{Ran}
 use Rattle.sip_driver.specs.Running.{Numbers, start_numbers, body_lines}
 use Rattle.sip_driver.specs.declared.fault.RunFault.{RunFault}
 use Rattle.sip_driver.proofs.RanLemmas.{same_ran}
-use Rattle.sip_driver.proofs.BlocksSeen.{element-one}
+use Rattle.sip_driver.proofs.BlocksSeen.{product-one}
+use Rattle.sip_driver.proofs.FormLaws.{set-law}
 use Rattle.sip_driver.proofs.Sequential.{printed}
 
 -- a text that a run wrote from its start is that of the sequential meaning
