@@ -1,6 +1,6 @@
 //! A store in memory.
 
-ghost use Rattle.std.specs.Prelude.{◌≡◌, Some, IsOk, IfOk, slice_set};
+ghost use Rattle.std.specs.Prelude.{◌≡◌, Some, IfOk};
 ghost use Rattle.block_store.specs.Memory.{blocks_of, sizes_of, zeros};
 ghost use Rattle.sip_files.specs.Kept.{stands_alone};
 
