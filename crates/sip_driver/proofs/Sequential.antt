@@ -62,7 +62,7 @@ span-is path index is within =
     let r = (slice_index_or path.program.indices index none).range in
     at
     ∙ (range-is (length path.lengths) r (All-get_or (λ (i : IndexDecl). IsRange (length path.lengths) i.range) path.program.indices index none within is.indices)
-      ∙ ap (λ (s : Span). Segments Ao (span_first s) (span_count s)) (sym at))
+    ∙ ap (λ (s : Span). Segments Ao (span_first s) (span_count s)) (sym at))
 
 -- one number below another
 pub one_below : (n index : ℕ) (dims : List ℕ) → dims ≡ index ∷ [] → OneBelow n dims → index < n
@@ -97,8 +97,8 @@ there path m loop block index looped is block_is fits within =
       dims = dims;
       span = span-is path index is (one_below (length path.program.indices) index (slice_index_or path.program.arrays block.array no_array).dims dims array_is.1);
       len =
-        ap (λ (at : List ℕ). length (words_of path m (record { array = block.array; at = at }))) (sym (at-is path loop block index looped block_is))
-        ∙ (length-words path m loop block index looped fits within block_is ∙ ap (λ k. (among path.lengths k).len) number);
+          ap (λ (at : List ℕ). length (words_of path m (record { array = block.array; at = at }))) (sym (at-is path loop block index looped block_is))
+          ∙ (length-words path m loop block index looped fits within block_is ∙ ap (λ k. (among path.lengths k).len) number);
     }
 
 -- a statement that printed nothing
@@ -112,51 +112,50 @@ over-law path turn next said first (suc n) each m lines fits =
     let here = each first m lines (omega arith) (omega arith) fits in
     ap (λ o. after o (over (numbers_from (first + 1) n) turn)) here.0
     ∙ (over-law path turn next said (first + 1) n (λ k o ls from below kept. each k o ls (omega (arith, from)) (omega (arith, below)) kept) (next first m) (lines ++ said first m) here.1
-      ∙ ap
-        (λ ls. Went (state_of path (through (numbers_from (first + 1) n) next (next first m)) ls))
-        (append_assoc lines (said first m) (lines_through (numbers_from (first + 1) n) next said (next first m))))
+    ∙ ap
+    (λ ls. Went (state_of path (through (numbers_from (first + 1) n) next (next first m)) ls))
+    (append_assoc lines (said first m) (lines_through (numbers_from (first + 1) n) next said (next first m))))
 
 mutual
   -- a statement of the first profile, as the meaning has it
   pub form_law : (path : Path) (call : ℕ → State → Outcome) (loop : Option ℕ) (line : ℕ) (form : Plain) (m : Numbers) (lines : List (List ℕ)) → IsPath path → IsForm path.program loop form → Fits path m → IsWithin path m loop → form_meaning Present (setting_of path) call line form (state_of path m lines) ≡ Went (state_of path (ran_form path form m) (lines ++ form_lines path form m))
   form_law path call None line (Do index body) m lines is form_is fits within =
       ap
-        (λ o. then_own o (bound index 0))
-        (over-law
-          path
-          (λ k t. block_meaning Present (setting_of path) call body (on_own (bound index k) t))
-          (λ k n. ran path body (with_value index k n))
-          (λ k n. body_lines path body (with_value index k n))
-          (first_of (spaces_of path) index)
-          (count_of (spaces_of path) index)
-          (λ k n ls from below kept.
-            let at = at_segment path n index k form_is.0 kept from below in
-            let kept_value = fits_value path n index k kept in
-            (
-              body_law path call (Some index) body (with_value index k n) ls is form_is.1 kept_value at,
-              fits_body path (Some index) body (with_value index k n) form_is.1 kept_value at
-            ))
-          m
-          lines
-          fits)
+      (λ o. then_own o (bound index 0))
+      (over-law
+      path
+      (λ k t. block_meaning Present (setting_of path) call body (on_own (bound index k) t))
+      (λ k n. ran path body (with_value index k n))
+      (λ k n. body_lines path body (with_value index k n))
+      (first_of (spaces_of path) index)
+      (count_of (spaces_of path) index)
+      (λ k n ls from below kept.
+      let at = at_segment path n index k form_is.0 kept from below in
+      let kept_value = fits_value path n index k kept in (
+        body_law path call (Some index) body (with_value index k n) ls is form_is.1 kept_value at,
+        fits_body path (Some index) body (with_value index k n) form_is.1 kept_value at,
+      ))
+      m
+      lines
+      fits)
   form_law path call (Some outer) line (Do index body) m lines is form_is fits within = absurd form_is
   form_law path call None line (Assign (target.Block t) Set (One (operand.Number n))) m lines is form_is fits within = absurd cc
   form_law path call (Some i) line (Assign (target.Block t) Set (One (operand.Number n))) m lines is form_is fits within =
       quiet_law path (ran_form path (Assign (target.Block t) Set (One (operand.Number n))) m) lines _
-        (subst
-          (λ (at : List ℕ). form_meaning Present (setting_of path) call line (Assign (target.Block (record { array = t.array; at = at })) Set (One (operand.Number n))) (state_of path m lines) ≡ Went (state_of path (ran_form path (Assign (target.Block (record { array = t.array; at = at })) Set (One (operand.Number n))) m) lines))
-          (sym (at-is path (Some i) t i refl form_is.0))
-          (fill-law path call line m lines t.array i n (there path m (Some i) t i refl is form_is.0 fits within)))
+      (subst
+      (λ (at : List ℕ). form_meaning Present (setting_of path) call line (Assign (target.Block (record { array = t.array; at = at })) Set (One (operand.Number n))) (state_of path m lines) ≡ Went (state_of path (ran_form path (Assign (target.Block (record { array = t.array; at = at })) Set (One (operand.Number n))) m) lines))
+      (sym (at-is path (Some i) t i refl form_is.0))
+      (fill-law path call line m lines t.array i n (there path m (Some i) t i refl is form_is.0 fits within)))
   form_law path call None line (Assign (target.Block t) Add (One (operand.Block b))) m lines is form_is fits within = absurd cc
   form_law path call (Some i) line (Assign (target.Block t) Add (One (operand.Block b))) m lines is form_is fits within =
       quiet_law path (ran_form path (Assign (target.Block t) Add (One (operand.Block b))) m) lines _
-        (subst
-          (λ (at : List ℕ). form_meaning Present (setting_of path) call line (Assign (target.Block (record { array = t.array; at = at })) Add (One (operand.Block b))) (state_of path m lines) ≡ Went (state_of path (ran_form path (Assign (target.Block (record { array = t.array; at = at })) Add (One (operand.Block b))) m) lines))
-          (sym (at-is path (Some i) t i refl form_is.0))
-          (subst
-            (λ (at : List ℕ). form_meaning Present (setting_of path) call line (Assign (target.Block (over_one t.array i)) Add (One (operand.Block (record { array = b.array; at = at })))) (state_of path m lines) ≡ Went (state_of path (ran_form path (Assign (target.Block (over_one t.array i)) Add (One (operand.Block (record { array = b.array; at = at })))) m) lines))
-            (sym (at-is path (Some i) b i refl form_is.1))
-            (add-law path call line m lines t.array b.array i (there path m (Some i) t i refl is form_is.0 fits within) (there path m (Some i) b i refl is form_is.1 fits within))))
+      (subst
+      (λ (at : List ℕ). form_meaning Present (setting_of path) call line (Assign (target.Block (record { array = t.array; at = at })) Add (One (operand.Block b))) (state_of path m lines) ≡ Went (state_of path (ran_form path (Assign (target.Block (record { array = t.array; at = at })) Add (One (operand.Block b))) m) lines))
+      (sym (at-is path (Some i) t i refl form_is.0))
+      (subst
+      (λ (at : List ℕ). form_meaning Present (setting_of path) call line (Assign (target.Block (over_one t.array i)) Add (One (operand.Block (record { array = b.array; at = at })))) (state_of path m lines) ≡ Went (state_of path (ran_form path (Assign (target.Block (over_one t.array i)) Add (One (operand.Block (record { array = b.array; at = at })))) m) lines))
+      (sym (at-is path (Some i) b i refl form_is.1))
+      (add-law path call line m lines t.array b.array i (there path m (Some i) t i refl is form_is.0 fits within) (there path m (Some i) b i refl is form_is.1 fits within))))
   form_law path call loop line (Assign (target.Scalar s) Set (One (operand.Number n))) m lines is form_is fits within =
       quiet_law path (ran_form path (Assign (target.Scalar s) Set (One (operand.Number n))) m) lines _ (set-law path call line m lines s n)
   form_law path call loop line (Assign (target.Scalar s) Add (One (operand.Number n))) m lines is form_is fits within =
@@ -164,13 +163,13 @@ mutual
   form_law path call None line (Assign (target.Scalar s) Set (Two (operand.Block a) Times (operand.Block b))) m lines is form_is fits within = absurd cc
   form_law path call (Some i) line (Assign (target.Scalar s) Set (Two (operand.Block a) Times (operand.Block b))) m lines is form_is fits within =
       quiet_law path (ran_form path (Assign (target.Scalar s) Set (Two (operand.Block a) Times (operand.Block b))) m) lines _
-        (subst
-          (λ (at : List ℕ). form_meaning Present (setting_of path) call line (Assign (target.Scalar s) Set (Two (operand.Block (record { array = a.array; at = at })) Times (operand.Block b))) (state_of path m lines) ≡ Went (state_of path (ran_form path (Assign (target.Scalar s) Set (Two (operand.Block (record { array = a.array; at = at })) Times (operand.Block b))) m) lines))
-          (sym (at-is path (Some i) a i refl form_is.1))
-          (subst
-            (λ (at : List ℕ). form_meaning Present (setting_of path) call line (Assign (target.Scalar s) Set (Two (operand.Block (over_one a.array i)) Times (operand.Block (record { array = b.array; at = at })))) (state_of path m lines) ≡ Went (state_of path (ran_form path (Assign (target.Scalar s) Set (Two (operand.Block (over_one a.array i)) Times (operand.Block (record { array = b.array; at = at })))) m) lines))
-            (sym (at-is path (Some i) b i refl form_is.2))
-            (contract-law path call line m lines s a.array b.array i (there path m (Some i) a i refl is form_is.1 fits within) (there path m (Some i) b i refl is form_is.2 fits within))))
+      (subst
+      (λ (at : List ℕ). form_meaning Present (setting_of path) call line (Assign (target.Scalar s) Set (Two (operand.Block (record { array = a.array; at = at })) Times (operand.Block b))) (state_of path m lines) ≡ Went (state_of path (ran_form path (Assign (target.Scalar s) Set (Two (operand.Block (record { array = a.array; at = at })) Times (operand.Block b))) m) lines))
+      (sym (at-is path (Some i) a i refl form_is.1))
+      (subst
+      (λ (at : List ℕ). form_meaning Present (setting_of path) call line (Assign (target.Scalar s) Set (Two (operand.Block (over_one a.array i)) Times (operand.Block (record { array = b.array; at = at })))) (state_of path m lines) ≡ Went (state_of path (ran_form path (Assign (target.Scalar s) Set (Two (operand.Block (over_one a.array i)) Times (operand.Block (record { array = b.array; at = at })))) m) lines))
+      (sym (at-is path (Some i) b i refl form_is.2))
+      (contract-law path call line m lines s a.array b.array i (there path m (Some i) a i refl is form_is.1 fits within) (there path m (Some i) b i refl is form_is.2 fits within))))
   form_law path call loop line (PrintScalar s) m lines is form_is fits within = print-law path call line m lines s form_is fits
   form_law path call loop line form m lines is form_is fits within = absurd form_is
 
@@ -180,4 +179,4 @@ mutual
   body_law path call loop (Then line form rest) m lines is body_is fits within =
       ap (λ o. after o (block_meaning Present (setting_of path) call rest)) (form_law path call loop line form m lines is body_is.0 fits within)
       ∙ (body_law path call loop rest (ran_form path form m) (lines ++ form_lines path form m) is body_is.1 (fits_form path loop form m body_is.0 fits within) (within_form path loop form m body_is.0 within)
-        ∙ ap (λ ls. Went (state_of path (ran path rest (ran_form path form m)) ls)) (append_assoc lines (form_lines path form m) (body_lines path rest (ran_form path form m))))
+      ∙ ap (λ ls. Went (state_of path (ran path rest (ran_form path form m)) ls)) (append_assoc lines (form_lines path form m) (body_lines path rest (ran_form path form m))))
