@@ -2,7 +2,9 @@
 #![tactic(auto)]
 
 mod clash;
+mod standing;
 mod trap;
 
 pub use clash::Clash;
+pub use standing::stand_together;
 pub use trap::{Trap, TrapKind};
