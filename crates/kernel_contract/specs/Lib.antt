@@ -1,0 +1,5 @@
+pub mod Contraction
+pub mod Places
+pub mod Sum
+pub mod Product
+pub mod Walks

@@ -1,0 +1,12 @@
+//! Contractions of blocks by tiles, for every split of up to six dimensions.
+#![tactic(auto)]
+
+mod axis;
+mod fronts;
+mod packing;
+mod run;
+mod tiles;
+mod walk;
+
+pub use axis::Axis;
+pub use tiles::{tile, tile_any};
