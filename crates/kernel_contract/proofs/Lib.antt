@@ -1,6 +1,9 @@
+pub mod ContractionLemmas
 pub mod Numbers
+pub mod PartLemmas
 pub mod PlaceLemmas
 pub mod Products
+pub mod SourceLemmas
 pub mod Steps
 pub mod Sums
 pub mod WalkLemmas

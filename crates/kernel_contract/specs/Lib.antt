@@ -3,3 +3,4 @@ pub mod Places
 pub mod Sum
 pub mod Product
 pub mod Walks
+pub mod Parts
