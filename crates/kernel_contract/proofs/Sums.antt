@@ -2,6 +2,7 @@
 use Rattle.std.proofs.Common.{◌≡◌, ℕ, ◌+◌, ◌*◌, ◌%◌, ◌^◌, ◌<◌, zero, suc, refl, ap, sym, ◌∙◌, arith, add-one}
 use Rattle.std.proofs.Math.Nat.{mod-add-mod}
 use Rattle.kernel_contract.specs.Sum.{sum_to}
+use Rattle.kernel_contract.proofs.Numbers.{mod_both}
 
 -- equal terms have equal sums
 pub sum_to-cong : (n : ℕ) (f g : ℕ → ℕ) → ((k : ℕ) → k < n → f k ≡ g k) → sum_to n f ≡ sum_to n g
@@ -33,3 +34,7 @@ pub sum_more : (f : ℕ → ℕ) (k n sum more : ℕ) → sum ≡ sum_to k f % 2
     → (sum + more) % 2 ^ 64 ≡ sum_to (k + n) f % 2 ^ 64
 sum_more f k n sum more e m =
     rw (e, m, sum_to-add k n f) (mod-add-mod (sum_to k f) (2 ^ 64) (sum_to n (λ i. f (k + i))))
+
+-- or by its next term
+pub sum_next : (f : ℕ → ℕ) (k sum next : ℕ) → sum ≡ sum_to k f % 2 ^ 64 → next ≡ f k % 2 ^ 64 → (sum + next) % 2 ^ 64 ≡ sum_to (k + 1) f % 2 ^ 64
+sum_next f k sum next e n = rw (e, n, add-one) (mod_both (sum_to k f) (f k) (2 ^ 64))

@@ -136,16 +136,13 @@ gone-le axes true place h = omega (arith, number_below axes place (h refl))
 gone-le axes false place h = omega arith
 
 -- a run with one more place
-pub IsRun-push : (axes : List Axis) (first : ℕ) (run new : Run) (at : Offsets) (place : List ℕ) → run.len < 4
-    → length run.a ≡ 4 → length run.b ≡ 4 → length run.to ≡ 4
-    → IsRun axes first run → IsPlace axes place → AreOffsets axes place at → number axes place ≡ first + run.len
+pub IsRun-push : (axes : List Axis) (first : ℕ) (run new : Run) (at : Offsets) → run.len < 4
+    → length run.a ≡ 4 → length run.b ≡ 4 → length run.to ≡ 4 → IsRun axes first run → AreOffsets axes (place_at axes (first + run.len)) at
     → new.len ≡ run.len + 1 → new.a ≡ set run.a run.len at.a → new.b ≡ set run.b run.len at.b → new.to ≡ set run.to run.len at.to
     → IsRun axes first new
-IsRun-push axes first run new at place low len_a len_b len_to r p o e len a b to =
-    let here : place_at axes (first + run.len) ≡ place = rw (← e) (place_at-number axes place p) in
-    record {
-      len = omega arith;
-      a = rw (len, a) (front_step (λ i v. v ≡ offset_a axes (place_at axes (first + i)) % 2 ^ 64) run.a 0 at.a run.len (omega arith) r.a (rw here o.a));
-      b = rw (len, b) (front_step (λ i v. v ≡ offset_b axes (place_at axes (first + i)) % 2 ^ 64) run.b 0 at.b run.len (omega arith) r.b (rw here o.b));
-      to = rw (len, to) (front_step (λ i v. v ≡ offset_to axes (place_at axes (first + i)) % 2 ^ 64) run.to 0 at.to run.len (omega arith) r.to (rw here o.to));
-    }
+IsRun-push axes first run new at low len_a len_b len_to r here len a b to = record {
+  len = omega arith;
+  a = rw (len, a) (front_step (λ i v. v ≡ offset_a axes (place_at axes (first + i)) % 2 ^ 64) run.a 0 at.a run.len (omega arith) r.a here.a);
+  b = rw (len, b) (front_step (λ i v. v ≡ offset_b axes (place_at axes (first + i)) % 2 ^ 64) run.b 0 at.b run.len (omega arith) r.b here.b);
+  to = rw (len, to) (front_step (λ i v. v ≡ offset_to axes (place_at axes (first + i)) % 2 ^ 64) run.to 0 at.to run.len (omega arith) r.to here.to)
+}

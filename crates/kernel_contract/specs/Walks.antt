@@ -40,7 +40,7 @@ gone axes walk = if walk.left then number axes walk.at else count axes
 -- a walk that has not ended stands at a place, with its offsets
 pub record Stands {R : ℕ} (axes : List Axis) (walk : Walk R) : Type 0 where
   pub place : walk.left ≡ true → IsPlace axes walk.at
-  pub offsets : walk.left ≡ true → AreOffsets axes walk.at walk.now
+  pub offsets : walk.left ≡ true → AreOffsets axes walk.at walk.offsets
 
 -- the offsets of up to four places, from the one with this number on, modulo 2^64
 pub record IsRun (axes : List Axis) (first : ℕ) (run : Run) : Type 0 where

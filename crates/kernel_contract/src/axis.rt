@@ -12,3 +12,13 @@ pub struct Axis {
     /// Its stride in the target.
     pub to: u32,
 }
+
+impl Axis {
+    // no numbers, and no strides
+    pub(crate) const NONE: Axis = Axis {
+        len: 0,
+        a: 0,
+        b: 0,
+        to: 0,
+    };
+}

@@ -3,8 +3,10 @@
 
 mod axis;
 mod fronts;
+pub mod laws;
 mod packing;
 mod run;
+mod splits;
 mod storing;
 mod tile_sums;
 mod tiled;
@@ -12,5 +14,6 @@ mod tiles;
 mod walk;
 
 pub use axis::Axis;
+pub use splits::contract_any;
 pub use tiled::contract;
 pub use tiles::{tile, tile_any};

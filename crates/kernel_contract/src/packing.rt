@@ -30,7 +30,15 @@ fn packed_row(from: &[u64], row: usize, columns: &[usize; 4], n: usize) -> [u64;
 {
     let mut part = [0u64; 4];
     for j in 0..n {
-        part[j] = from[row.wrapping_add(columns[j])];
+        part[j] = number_at(from, row, columns[j]);
     }
     part
+}
+
+/// The number at a sum of two offsets.
+pub fn number_at(from: &[u64], row: usize, column: usize) -> u64
+    requires { (row + column) % 2 ^ 64 < length from.now }
+    ensures { result ≡ slice_index from.now ((row + column) % 2 ^ 64) }
+{
+    from[row.wrapping_add(column)]
 }

@@ -3,7 +3,7 @@
 ghost use Rattle.std.specs.Prelude.{◌≡◌, ◌+◌, ◌*◌, ◌%◌, ◌^◌, ◌<◌, ◌≤◌, true};
 ghost use Rattle.kernel_contract.specs.Places.{offset};
 ghost use Rattle.std.specs.List.{list_all};
-ghost use Rattle.kernel_contract.specs.Walks.{IsRun, Stands, count, gone, is_long};
+ghost use Rattle.kernel_contract.specs.Walks.{AreOffsets, IsRun, Stands, count, gone, is_long, place_at};
 
 use crate::axis::Axis;
 use crate::run::Run;
@@ -55,7 +55,7 @@ pub struct Walk<const R: usize> {
     /// The place's number at each axis.
     pub at: [u32; R],
     /// The place's offsets.
-    pub now: Offsets,
+    pub offsets: Offsets,
 }
 
 impl<const R: usize> Walk<R> {
@@ -67,12 +67,26 @@ impl<const R: usize> Walk<R> {
         Walk {
             left: has_places(axes),
             at: [0; R],
-            now: Offsets::ORIGIN,
+            offsets: Offsets::ORIGIN,
         }
     }
 
-    /// Goes on to the next place, or to the end.
-    pub fn advance(&mut self, axes: &[Axis; R])
+    /// The offsets of the place, which it leaves for the next one or the end.
+    pub fn step(&mut self, axes: &[Axis; R]) -> Offsets
+        requires left { self.old.left ≡ true }
+        requires stands { Stands axes.now self.old }
+        ensures stands { Stands axes.now self.new }
+        ensures offsets { AreOffsets axes.now (place_at axes.now (gone axes.now self.old)) result }
+        ensures gone { gone axes.now self.new ≡ gone axes.now self.old + 1 }
+        ensures within { gone axes.now self.new ≤ count axes.now }
+    {
+        let here = self.offsets;
+        self.advance(axes);
+        here
+    }
+
+    // goes on to the next place, or to the end
+    fn advance(&mut self, axes: &[Axis; R])
         requires left { self.old.left ≡ true }
         requires stands { Stands axes.now self.old }
         ensures stands { Stands axes.now self.new }
@@ -85,11 +99,11 @@ impl<const R: usize> Walk<R> {
             let at = self.at[i];
             if at + 1 < len {
                 self.at[i] = at + 1;
-                self.now = self.now.forth(axes[i], 1);
+                self.offsets = self.offsets.forth(axes[i], 1);
                 return;
             }
             self.at[i] = 0;
-            self.now = self.now.back(axes[i], at);
+            self.offsets = self.offsets.back(axes[i], at);
         }
         self.left = false;
     }
@@ -106,8 +120,7 @@ impl<const R: usize> Walk<R> {
     {
         let mut run = Run::EMPTY;
         while self.left && run.len < 4 {
-            run.push(self.now);
-            self.advance(axes);
+            run.push(self.step(axes));
         }
         run
     }

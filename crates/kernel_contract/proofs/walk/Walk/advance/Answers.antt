@@ -17,7 +17,7 @@ returns-then-at-len-clause-stands g c =
     let offsets = c.loop-i.invariant.stands.offsets c.loop-i.invariant.left in
     record {
       place = λ _. IsPlace-set c.args.axes.now c.loop-i.self.at (c.loop-i.i - 1) (get_or c.loop-i.self.at (c.loop-i.i - 1) 0 + 1) c.if-at-len.true place;
-      offsets = λ _. AreOffsets-forth c.args.axes.now c.loop-i.self.at (c.loop-i.i - 1) c.loop-i.self.now c.forth-self.result low place offsets
+      offsets = λ _. AreOffsets-forth c.args.axes.now c.loop-i.self.at (c.loop-i.i - 1) c.loop-i.self.offsets c.forth-self.result low place offsets
           c.forth-self.ensures.a c.forth-self.ensures.b c.forth-self.ensures.to;
     }
 
@@ -41,7 +41,7 @@ loop-i-preserved g c =
       left = c.loop-i.invariant.left;
       stands = record {
         place = λ _. IsPlace-set c.args.axes.now c.loop-i.self.at (c.loop-i.i - 1) 0 (omega (arith, below)) place;
-        offsets = λ _. AreOffsets-back c.args.axes.now c.loop-i.self.at (c.loop-i.i - 1) c.loop-i.self.now c.back-self.result low place offsets
+        offsets = λ _. AreOffsets-back c.args.axes.now c.loop-i.self.at (c.loop-i.i - 1) c.loop-i.self.offsets c.back-self.result low place offsets
             c.back-self.ensures.a (search rules) c.back-self.ensures.b (search rules) c.back-self.ensures.to (search rules);
       };
       owed = number_back c.args.axes.now c.loop-i.self.at c.loop-i.i (c.loop-i.i - 1) _ next low place c.if-at-len.false c.loop-i.invariant.owed;

@@ -1,4 +1,4 @@
-use Rattle.std.proofs.Common.{◌≡◌, ◌+◌, ◌-◌, ◌≤◌, true, length}
+use Rattle.std.proofs.Common.{◌≡◌, ◌+◌, ◌-◌, true, length}
 use Rattle.kernel_contract.specs.Walks.{IsRun, Stands, gone}
 use Rattle.kernel_contract.proofs.walk.Walk.run.Given as goal
 
@@ -10,7 +10,7 @@ invariant-loop-self g l = record {
   none : l.run.len ≡ 0 → l.self.left ≡ true;
   len_a : length l.run.a ≡ 4;
   len_b : length l.run.b ≡ 4;
-  len_to : length l.run.to ≡ 4;
+  len_to : length l.run.to ≡ 4
 }
 
 abbrev pub decreases-loop-self : goal.decreases-loop-self
