@@ -100,44 +100,43 @@ value-known a b to free_a free_b shared i j x fits small_a small_b hi hj e =
 
 -- further rows of the target, where their offsets are known modulo 2^64
 module _ (a b old mid : List ℕ) (free_a free_b shared : List Axis) (first rows : ℕ) (in_a in_to : ℕ → ℕ)
-  (fits : Fits (length a) (length b) (length old) free_a free_b shared) (few : first + rows ≤ count free_a) (same : length mid ≡ length old)
-  (small_a : length a < 2 ^ 64) (small_b : length b < 2 ^ 64) (small : length old < 2 ^ 64)
-  (are_a : (i : ℕ) → i < rows → in_a i ≡ offset_a free_a (place_at free_a (first + i)) % 2 ^ 64)
-  (are_to : (i : ℕ) → i < rows → in_to i ≡ offset_to free_a (place_at free_a (first + i)) % 2 ^ 64)
+    (fits : Fits (length a) (length b) (length old) free_a free_b shared) (few : first + rows ≤ count free_a) (same : length mid ≡ length old)
+    (small_a : length a < 2 ^ 64) (small_b : length b < 2 ^ 64) (small : length old < 2 ^ 64)
+    (are_a : (i : ℕ) → i < rows → in_a i ≡ offset_a free_a (place_at free_a (first + i)) % 2 ^ 64)
+    (are_to : (i : ℕ) → i < rows → in_to i ≡ offset_to free_a (place_at free_a (first + i)) % 2 ^ 64)
   where
+    rows-are : (i j : ℕ) → i < rows → j < count free_b
+        → (in_to i + offset_to free_b (place_at free_b j)) % 2 ^ 64 ≡ target_at free_a free_b (first + i) j
+    rows-are i j row column =
+        let all = AreTargets-Fits (length a) (length b) (length old) free_a free_b shared fits in
+        target-known free_a free_b (first + i) j (in_to i) (length old) small (all.within (first + i) j (omega arith) column) (are_to i row)
 
-  rows-are : (i j : ℕ) → i < rows → j < count free_b
-      → (in_to i + offset_to free_b (place_at free_b j)) % 2 ^ 64 ≡ target_at free_a free_b (first + i) j
-  rows-are i j row column =
-      let all = AreTargets-Fits (length a) (length b) (length old) free_a free_b shared fits in
-      target-known free_a free_b (first + i) j (in_to i) (length old) small (all.within (first + i) j (omega arith) column) (are_to i row)
-
-  -- they are targets
-  pub AreTargets-further : AreTargets (λ i j. (in_to i + offset_to free_b (place_at free_b j)) % 2 ^ 64) rows (count free_b) (length mid)
-  AreTargets-further =
-      let T = target_at free_a free_b in
-      let all = AreTargets-Fits (length a) (length b) (length old) free_a free_b shared fits in
-      subst (AreTargets (λ i j. (in_to i + offset_to free_b (place_at free_b j)) % 2 ^ 64) rows (count free_b)) (sym same)
-      (AreTargets-same (λ i j. T (first + i) j) (λ i j. (in_to i + offset_to free_b (place_at free_b j)) % 2 ^ 64) rows (count free_b) (length old) rows-are
+    -- they are targets
+    pub AreTargets-further : AreTargets (λ i j. (in_to i + offset_to free_b (place_at free_b j)) % 2 ^ 64) rows (count free_b) (length mid)
+    AreTargets-further =
+        let T = target_at free_a free_b in
+        let all = AreTargets-Fits (length a) (length b) (length old) free_a free_b shared fits in
+        subst (AreTargets (λ i j. (in_to i + offset_to free_b (place_at free_b j)) % 2 ^ 64) rows (count free_b)) (sym same)
+        (AreTargets-same (λ i j. T (first + i) j) (λ i j. (in_to i + offset_to free_b (place_at free_b j)) % 2 ^ 64) rows (count free_b) (length old) rows-are
         (AreTargets-rows T first rows (count free_a) (count free_b) (length old) few all))
 
-  -- their sources are reached
-  pub Reaches-further : (i j : ℕ) → i < rows → j < count free_b → Reaches offset_a shared (in_a i) (length a)
-  Reaches-further i j row column =
-      Reaches-a (length a) (length b) (length old) free_a free_b shared (first + i) j (in_a i) fits (omega arith) column (are_a i row)
+    -- their sources are reached
+    pub Reaches-further : (i j : ℕ) → i < rows → j < count free_b → Reaches offset_a shared (in_a i) (length a)
+    Reaches-further i j row column =
+        Reaches-a (length a) (length b) (length old) free_a free_b shared (first + i) j (in_a i) fits (omega arith) column (are_a i row)
 
-  -- and with them replaced, so many more rows are
-  pub Replaced-further : (how : How) (new : List ℕ)
-      → Replaced how (target_at free_a free_b) (value_at a b free_a free_b shared) first (count free_b) old mid
-      → Replaced how (λ i j. (in_to i + offset_to free_b (place_at free_b j)) % 2 ^ 64)
+    -- and with them replaced, so many more rows are
+    pub Replaced-further : (how : How) (new : List ℕ)
+        → Replaced how (target_at free_a free_b) (value_at a b free_a free_b shared) first (count free_b) old mid
+        → Replaced how (λ i j. (in_to i + offset_to free_b (place_at free_b j)) % 2 ^ 64)
         (λ i j. sum_from a b shared (in_a i) (offset_b free_b (place_at free_b j))) rows (count free_b) mid new
-      → Replaced how (target_at free_a free_b) (value_at a b free_a free_b shared) (first + rows) (count free_b) old new
-  Replaced-further how new front further =
-      let T = target_at free_a free_b in
-      let V = value_at a b free_a free_b shared in
-      Replaced-rows how T V first rows (count free_b) (count free_a) (length old) old mid new few
-      (AreTargets-Fits (length a) (length b) (length old) free_a free_b shared fits) front
-      (Replaced-same how (λ i j. (in_to i + offset_to free_b (place_at free_b j)) % 2 ^ 64)
+        → Replaced how (target_at free_a free_b) (value_at a b free_a free_b shared) (first + rows) (count free_b) old new
+    Replaced-further how new front further =
+        let T = target_at free_a free_b in
+        let V = value_at a b free_a free_b shared in
+        Replaced-rows how T V first rows (count free_b) (count free_a) (length old) old mid new few
+        (AreTargets-Fits (length a) (length b) (length old) free_a free_b shared fits) front
+        (Replaced-same how (λ i j. (in_to i + offset_to free_b (place_at free_b j)) % 2 ^ 64)
         (λ i j. sum_from a b shared (in_a i) (offset_b free_b (place_at free_b j))) (λ i j. T (first + i) j) (λ i j. V (first + i) j)
         rows (count free_b) mid new (λ i j row column. sym (rows-are i j row column))
         (λ i j row column. value-known a b (length old) free_a free_b shared (first + i) j (in_a i) fits small_a small_b (omega arith) column (are_a i row))

@@ -1,5 +1,6 @@
 pub mod ContractionLemmas
 pub mod Numbers
+pub mod OrderLemmas
 pub mod PartLemmas
 pub mod PlaceLemmas
 pub mod Products

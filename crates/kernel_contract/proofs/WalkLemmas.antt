@@ -85,7 +85,8 @@ number_end axes place start i low h owed =
     let all : number axes place + count (drop 0 axes) ≡ number axes start + 1 = rw none at owed in
     omega (arith, number_below axes start h, count-drop-zero axes)
 
-both_true : (a b : Bool) → (a && b) ≡ true → (a ≡ true) × (b ≡ true)
+-- what a conjunction that holds says
+pub both_true : (a b : Bool) → (a && b) ≡ true → (a ≡ true) × (b ≡ true)
 both_true true b e = (refl, e)
 both_true false b e = absurd cc
 
@@ -144,5 +145,5 @@ IsRun-push axes first run new at low len_a len_b len_to r here len a b to = reco
   len = omega arith;
   a = rw (len, a) (front_step (λ i v. v ≡ offset_a axes (place_at axes (first + i)) % 2 ^ 64) run.a 0 at.a run.len (omega arith) r.a here.a);
   b = rw (len, b) (front_step (λ i v. v ≡ offset_b axes (place_at axes (first + i)) % 2 ^ 64) run.b 0 at.b run.len (omega arith) r.b here.b);
-  to = rw (len, to) (front_step (λ i v. v ≡ offset_to axes (place_at axes (first + i)) % 2 ^ 64) run.to 0 at.to run.len (omega arith) r.to here.to)
+  to = rw (len, to) (front_step (λ i v. v ≡ offset_to axes (place_at axes (first + i)) % 2 ^ 64) run.to 0 at.to run.len (omega arith) r.to here.to);
 }

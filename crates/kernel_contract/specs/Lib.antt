@@ -2,5 +2,6 @@ pub mod Contraction
 pub mod Places
 pub mod Sum
 pub mod Product
+pub mod Order
 pub mod Walks
 pub mod Parts

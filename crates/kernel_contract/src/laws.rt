@@ -6,12 +6,11 @@ ghost use Rattle.kernel_contract.specs.Parts.{AreTargets, Reaches, Replaced, sum
 ghost use Rattle.kernel_contract.specs.Places.{offset_a, offset_b, offset_to};
 ghost use Rattle.kernel_contract.specs.Walks.{count, place_at};
 
-use kernel_permute::How;
-
 use crate::axis::Axis;
 use crate::packing::number_at;
 use crate::storing::meet;
 use crate::walk::{Offsets, Walk};
+use kernel_permute::How;
 
 /// Contracts as `contract` does, without tiles.
 pub fn contract_plain<const FA: usize, const FB: usize, const S: usize>(

@@ -4,6 +4,7 @@
 mod axis;
 mod fronts;
 pub mod laws;
+mod order;
 mod packing;
 mod run;
 mod splits;
@@ -14,6 +15,7 @@ mod tiles;
 mod walk;
 
 pub use axis::Axis;
+pub use order::is_by_rows;
 pub use splits::contract_any;
 pub use tiled::contract;
 pub use tiles::{tile, tile_any};

@@ -3,10 +3,9 @@
 ghost use Rattle.std.specs.Prelude.{◌≡◌, ◌+◌, ◌≤◌, length};
 ghost use Rattle.kernel_contract.specs.Contraction.{Contracted, Fits};
 
-use kernel_permute::How;
-
 use crate::axis::Axis;
 use crate::tiled::contract;
+use kernel_permute::How;
 
 /// Contracts as `contract` does, for any numbers of free and shared axes.
 pub fn contract_any(

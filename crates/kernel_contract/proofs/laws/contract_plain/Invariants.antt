@@ -8,7 +8,7 @@ abbrev pub invariant-loop-row : goal.invariant-loop-row
 invariant-loop-row g l = record {
   stands : Stands l.free_a l.row;
   done : Replaced l.how (target_at l.free_a l.free_b) (value_at l.a l.b l.free_a l.free_b l.shared)
-      (gone l.free_a l.row) (count l.free_b) l.initial.to l.to
+      (gone l.free_a l.row) (count l.free_b) l.initial.to l.to;
 }
 
 abbrev pub decreases-loop-row : goal.decreases-loop-row

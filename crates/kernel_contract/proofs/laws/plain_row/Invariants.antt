@@ -9,7 +9,7 @@ invariant-loop-column g l = record {
   stands : Stands l.free_b l.column;
   done : Replaced l.how (λ i j. (l.row.to + offset_to l.free_b (place_at l.free_b j)) % 2 ^ 64)
       (λ i j. sum_from l.a l.b l.shared l.row.a (offset_b l.free_b (place_at l.free_b j)))
-      1 (gone l.free_b l.column) l.initial.to l.to
+      1 (gone l.free_b l.column) l.initial.to l.to;
 }
 
 abbrev pub decreases-loop-column : goal.decreases-loop-column

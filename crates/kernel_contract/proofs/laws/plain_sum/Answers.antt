@@ -21,14 +21,14 @@ pub loop-walk-preserved : goal.loop-walk-preserved
 loop-walk-preserved g c =
     let at = gone c.args.shared.now c.loop-walk.walk in
     let left : c.number_at-left.result ≡ get_or c.args.a.now ((c.args.from_a + offset_a c.args.shared.now (place_at c.args.shared.now at)) % 2 ^ 64) 0 =
-          c.number_at-left.ensures ∙ ap (λ t. get_or c.args.a.now t 0) (add-known c.args.from_a _ _ c.step-here.ensures.offsets.a) in
+    c.number_at-left.ensures ∙ ap (λ t. get_or c.args.a.now t 0) (add-known c.args.from_a _ _ c.step-here.ensures.offsets.a) in
     let right : c.number_at-right.result ≡ get_or c.args.b.now ((c.args.from_b + offset_b c.args.shared.now (place_at c.args.shared.now at)) % 2 ^ 64) 0 =
-          c.number_at-right.ensures ∙ ap (λ t. get_or c.args.b.now t 0) (add-known c.args.from_b _ _ c.step-here.ensures.offsets.b) in
+    c.number_at-right.ensures ∙ ap (λ t. get_or c.args.b.now t 0) (add-known c.args.from_b _ _ c.step-here.ensures.offsets.b) in
     record {
       stands = c.step-here.ensures.stands;
       done = rw c.step-here.ensures.gone
           (sum_next (term_at c.args.a.now c.args.b.now c.args.shared.now c.args.from_a c.args.from_b) at c.loop-walk.sum _ c.loop-walk.invariant.done
-            (rw (left, right)))
+          (rw (left, right)));
     }
 
 pub returns : goal.returns

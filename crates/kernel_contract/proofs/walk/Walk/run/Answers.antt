@@ -15,7 +15,7 @@ loop-self-preserved g c =
       none = λ zero. absurd (omega (arith, push.len, zero));
       len_a = ap length push.a ∙ length-set _ _ _ ∙ s.len_a;
       len_b = ap length push.b ∙ length-set _ _ _ ∙ s.len_b;
-      len_to = ap length push.to ∙ length-set _ _ _ ∙ s.len_to
+      len_to = ap length push.to ∙ length-set _ _ _ ∙ s.len_to;
     }
 
 pub returns-else-run-lt4-clause-within : goal.returns-else-run-lt4-clause-within

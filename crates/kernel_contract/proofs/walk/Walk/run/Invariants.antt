@@ -10,7 +10,7 @@ invariant-loop-self g l = record {
   none : l.run.len ≡ 0 → l.self.left ≡ true;
   len_a : length l.run.a ≡ 4;
   len_b : length l.run.b ≡ 4;
-  len_to : length l.run.to ≡ 4
+  len_to : length l.run.to ≡ 4;
 }
 
 abbrev pub decreases-loop-self : goal.decreases-loop-self
