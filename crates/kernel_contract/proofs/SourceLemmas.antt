@@ -1,5 +1,5 @@
 -- Offsets in the sources modulo 2^64, and sums over shared places as far as a walk has come.
-use Rattle.std.proofs.Common.{◌≡◌, ℕ, ◌+◌, ◌*◌, ◌%◌, ◌^◌, ◌<◌, ◌≤◌, List, [], ◌∷◌, get_or, refl, ap, sym, ◌∙◌, arith, add_comm}
+use Rattle.std.proofs.Common.{◌≡◌, ℕ, ◌+◌, ◌*◌, ◌%◌, ◌^◌, ◌<◌, ◌≤◌, ◌⊎◌, inl, inr, subst, List, [], ◌∷◌, get_or, refl, ap, sym, ◌∙◌, arith, add_comm}
 use Rattle.std.proofs.Math.Nat.{add-mod-mod, mod-add-mod}
 use Rattle.kernel_contract.specs.Parts.{Reaches, sum_from}
 use Rattle.kernel_contract.specs.Places.{IsPlace, offset_a, offset_b, sum_over}
@@ -27,6 +27,15 @@ pub Reaches-place_at : (offset_of : List Axis → List ℕ → ℕ) (axes : List
     → x ≡ offset_of axes (place_at axes k) % 2 ^ 64 → (from + x) % 2 ^ 64 < len
 Reaches-place_at offset_of axes from len k x reaches low e =
     rw (add-known from x (offset_of axes (place_at axes k)) e) (reaches (place_at axes k) (IsPlace-place_at axes k low))
+
+split : (i n : ℕ) → (i < n) ⊎ (n ≤ i)
+split i n = grind arith
+
+-- what holds of a run's offsets holds of all that fill the array
+pub all-filled : (P : ℕ → Type 0) (xs : List ℕ) (n : ℕ) → 0 < n → ((i : ℕ) → n ≤ i → i < 4 → get_or xs i 0 ≡ get_or xs 0 0)
+    → ((i : ℕ) → i < n → P (get_or xs i 0)) → (i : ℕ) → i < 4 → P (get_or xs i 0)
+all-filled P xs n some filled holds i low =
+    elim (split i n) [ inl front ↦ holds i front | inr behind ↦ subst P (sym (filled i behind low)) (holds 0 some) ]
 
 -- equal terms have equal sums over all places
 pub sum_over-cong : (axes : List Axis) (f g : List ℕ → ℕ) → ((s : List ℕ) → IsPlace axes s → f s ≡ g s) → sum_over axes f ≡ sum_over axes g

@@ -1,10 +1,11 @@
 //! Up to four places in a row, by their offsets.
 
-ghost use Rattle.std.specs.Prelude.{◌≡◌, ◌+◌, ◌<◌, slice_set};
+ghost use Rattle.std.specs.Prelude.{◌≡◌, ◌+◌, ◌<◌, replicate, slice_set};
 
 use crate::walk::Offsets;
 
-/// The offsets of up to four places in the two sources and in the target.
+/// The offsets of up to four places in the two sources and in the target. Those of the first fill
+/// the rest of the arrays, so that all four can be read.
 #[derive(Clone, Copy, Debug)]
 pub struct Run {
     /// How many places there are.
@@ -18,13 +19,20 @@ pub struct Run {
 }
 
 impl Run {
-    /// No places.
-    pub const EMPTY: Run = Run {
-        len: 0,
-        a: [0; 4],
-        b: [0; 4],
-        to: [0; 4],
-    };
+    /// One place, whose offsets fill the arrays.
+    pub fn of(at: Offsets) -> Run
+        ensures len { result.len ≡ 1 }
+        ensures a { result.a ≡ replicate 4 at.a }
+        ensures b { result.b ≡ replicate 4 at.b }
+        ensures to { result.to ≡ replicate 4 at.to }
+    {
+        Run {
+            len: 1,
+            a: [at.a; 4],
+            b: [at.b; 4],
+            to: [at.to; 4],
+        }
+    }
 
     /// Adds a place.
     pub fn push(&mut self, at: Offsets)

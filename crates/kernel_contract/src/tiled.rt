@@ -4,7 +4,7 @@ ghost use Rattle.std.specs.Prelude.{◌≡◌, ◌+◌, ◌%◌, ◌^◌, ◌<�
 ghost use Rattle.kernel_contract.specs.Contraction.{Contracted, Fits};
 ghost use Rattle.kernel_contract.specs.Parts.{AreTargets, Reaches, Replaced, sum_from};
 ghost use Rattle.kernel_contract.specs.Places.{offset_a, offset_b, offset_to};
-ghost use Rattle.kernel_contract.specs.Walks.{count, place_at};
+ghost use Rattle.kernel_contract.specs.Walks.{IsFilled, count, place_at};
 
 use crate::axis::Axis;
 use crate::run::Run;
@@ -48,6 +48,7 @@ fn across<const FB: usize, const S: usize>(
 )
     requires some_rows { 1 ≤ rows.now.len }
     requires few_rows { rows.now.len ≤ 4 }
+    requires filled_rows { IsFilled rows.now }
     requires in_a { (i j : ℕ) → i < rows.now.len → j < count free_b.now → Reaches offset_a shared.now (slice_index rows.now.a i) (length a.now) }
     requires in_b { (j : ℕ) → j < count free_b.now → Reaches offset_b shared.now (offset_b free_b.now (place_at free_b.now j)) (length b.now) }
     requires targets { AreTargets (λ i j. (slice_index rows.now.to i + offset_to free_b.now (place_at free_b.now j)) % 2 ^ 64) rows.now.len (count free_b.now) (length to.old) }

@@ -26,23 +26,32 @@ fn tile_row<const N: usize, const S: usize>(
 ) -> [u64; N]
     ensures { (j : ℕ) → j < N → slice_index result j ≡ (slice_index to.now j + row_by row.now b.now S j) % 2 ^ 64 }
 {
-    let mut sums = *to;
-    for j in 0..N {
-        sums[j] = to[j].wrapping_add(row_by_column(row, b, j));
+    let mut sums = [0u64; N];
+    for k in 0..S {
+        sums = with_scaled(&sums, row[k], &b[k]);
     }
-    sums
+    added(to, &sums)
 }
 
-// the sum over one row and one column
-fn row_by_column<const N: usize, const S: usize>(row: &[u64; S], b: &[[u64; N]; S], j: usize) -> u64
-    requires { j < N }
-    ensures { result ≡ row_by row.now b.now S j % 2 ^ 64 }
+fn added<const N: usize>(to: &[u64; N], sums: &[u64; N]) -> [u64; N]
+    ensures { (j : ℕ) → j < N → slice_index result j ≡ (slice_index to.now j + slice_index sums.now j) % 2 ^ 64 }
 {
-    let mut sum = 0u64;
-    for k in 0..S {
-        sum = sum.wrapping_add(row[k].wrapping_mul(b[k][j]));
+    let mut more = *to;
+    for j in 0..N {
+        more[j] = to[j].wrapping_add(sums[j]);
     }
-    sum
+    more
+}
+
+// sums with a row that is scaled
+fn with_scaled<const N: usize>(sums: &[u64; N], factor: u64, row: &[u64; N]) -> [u64; N]
+    ensures { (j : ℕ) → j < N → slice_index result j ≡ (slice_index sums.now j + factor * slice_index row.now j % 2 ^ 64) % 2 ^ 64 }
+{
+    let mut more = *sums;
+    for j in 0..N {
+        more[j] = sums[j].wrapping_add(factor.wrapping_mul(row[j]));
+    }
+    more
 }
 
 /// Adds the product of the front `m` by `s` part of `a` and the front `s` by `n` part of `b` to the

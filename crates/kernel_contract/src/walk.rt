@@ -114,11 +114,10 @@ impl<const R: usize> Walk<R> {
         requires stands { Stands axes.now self.old }
         ensures stands { Stands axes.now self.new }
         ensures run { IsRun axes.now (gone axes.now self.old) result }
-        ensures some { 0 < result.len }
         ensures gone { gone axes.now self.new ≡ gone axes.now self.old + result.len }
         ensures within { gone axes.now self.new ≤ count axes.now }
     {
-        let mut run = Run::EMPTY;
+        let mut run = Run::of(self.step(axes));
         while self.left && run.len < 4 {
             run.push(self.step(axes));
         }

@@ -11,12 +11,12 @@ pub products-sums-requires : goal.products-sums-requires
 products-sums-requires g c =
     let first = gone c.args.free_b.now c.loop-columns.columns in
     let in_a : (i : ℕ) → i < c.args.rows.now.len → Reaches offset_a c.args.shared.now (get_or c.args.rows.now.a i 0) (length c.args.a.now) =
-    λ i row. c.requires.in_a i first row (omega (arith, c.run-run.ensures.gone, c.run-run.ensures.within, c.run-run.ensures.some)) in
+    λ i row. c.requires.in_a i first row (omega (arith, c.run-run.ensures.gone, c.run-run.ensures.within, c.run-run.ensures.run.some)) in
     let in_b : (j : ℕ) → j < c.run-run.result.len → Reaches offset_b c.args.shared.now (get_or c.run-run.result.b j 0) (length c.args.b.now) =
     λ j column s p. rw (known-add (get_or c.run-run.result.b j 0) (offset_b c.args.free_b.now (place_at c.args.free_b.now (first + j)))
     (offset_b c.args.shared.now s) (c.run-run.ensures.run.b j column))
     (c.requires.in_b (first + j) (omega (arith, c.run-run.ensures.gone, c.run-run.ensures.within)) s p) in
-    (search rules, (c.requires.some_rows, (c.requires.few_rows, (c.run-run.ensures.some, (c.run-run.ensures.run.len, (in_a, in_b))))))
+    (search rules, (c.requires.some_rows, (c.requires.few_rows, (c.run-run.ensures.run.some, (c.run-run.ensures.run.len, (c.requires.filled_rows, (c.run-run.ensures.run.filled, (in_a, in_b))))))))
 
 pub store-requires-clause-targets : goal.store-requires-clause-targets
 store-requires-clause-targets g c =

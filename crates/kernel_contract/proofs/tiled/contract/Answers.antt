@@ -11,10 +11,10 @@ across-requires g c =
     (λ i. get_or c.run-run.result.a i 0) (λ i. get_or c.run-run.result.to i 0) c.requires (omega (arith, c.run-run.ensures.gone, c.run-run.ensures.within)) c.loop-rows.invariant.done.len (omega arith) (omega arith) (omega arith) c.run-run.ensures.run.a c.run-run.ensures.run.to in
     let in_b = λ (j : ℕ) (column : j < count c.args.free_b.now).
     Reaches-b (length c.args.a.now) (length c.args.b.now) (length c.args.to.now) c.args.free_a.now c.args.free_b.now c.args.shared.now
-    first j c.requires (omega (arith, c.run-run.ensures.gone, c.run-run.ensures.within, c.run-run.ensures.some)) column in
+    first j c.requires (omega (arith, c.run-run.ensures.gone, c.run-run.ensures.within, c.run-run.ensures.run.some)) column in
     let targets = AreTargets-further c.args.a.now c.args.b.now c.args.to.now c.loop-rows.to c.args.free_a.now c.args.free_b.now c.args.shared.now first c.run-run.result.len
     (λ i. get_or c.run-run.result.a i 0) (λ i. get_or c.run-run.result.to i 0) c.requires (omega (arith, c.run-run.ensures.gone, c.run-run.ensures.within)) c.loop-rows.invariant.done.len (omega arith) (omega arith) (omega arith) c.run-run.ensures.run.a c.run-run.ensures.run.to in
-    (search rules, (search rules, (c.run-run.ensures.some, (c.run-run.ensures.run.len, (in_a, (in_b, targets))))))
+    (search rules, (search rules, (c.run-run.ensures.run.some, (c.run-run.ensures.run.len, (c.run-run.ensures.run.filled, (in_a, (in_b, targets)))))))
 
 pub loop-rows-preserved : goal.loop-rows-preserved
 loop-rows-preserved g c =

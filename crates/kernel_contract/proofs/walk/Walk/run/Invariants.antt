@@ -1,4 +1,4 @@
-use Rattle.std.proofs.Common.{◌≡◌, ◌+◌, ◌-◌, true, length}
+use Rattle.std.proofs.Common.{◌≡◌, ◌+◌, ◌-◌, length}
 use Rattle.kernel_contract.specs.Walks.{IsRun, Stands, gone}
 use Rattle.kernel_contract.proofs.walk.Walk.run.Given as goal
 
@@ -7,7 +7,6 @@ invariant-loop-self g l = record {
   stands : Stands l.axes l.self;
   run : IsRun l.axes (gone l.fn.axes l.fn.self) l.run;
   gone : gone l.axes l.self ≡ gone l.fn.axes l.fn.self + l.run.len;
-  none : l.run.len ≡ 0 → l.self.left ≡ true;
   len_a : length l.run.a ≡ 4;
   len_b : length l.run.b ≡ 4;
   len_to : length l.run.to ≡ 4;
