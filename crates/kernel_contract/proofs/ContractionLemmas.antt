@@ -1,11 +1,11 @@
 -- The contraction by the numbers of its free places.
-use Rattle.std.proofs.Common.{◌≡◌, ℕ, ◌+◌, ◌*◌, ◌%◌, ◌^◌, ◌<◌, ◌≤◌, List, length, get_or, refl, ap, sym, subst, ◌∙◌, arith}
+use Rattle.std.proofs.Common.{◌≡◌, ℕ, ◌+◌, ◌*◌, ◌%◌, ◌^◌, ◌<◌, ◌≤◌, List, length, get_or, ap, sym, subst, ◌∙◌, arith}
 use Rattle.std.proofs.Math.Nat.{mod-le, mod-eq_of_lt}
 use Rattle.kernel_permute.specs.How.{combined}
 use Rattle.kernel_permute.specs.declared.how.How.{How}
 use Rattle.kernel_contract.specs.Contraction.{Contracted, Fits, target, value}
 use Rattle.kernel_contract.specs.Parts.{AreTargets, Reaches, Replaced, sum_from}
-use Rattle.kernel_contract.specs.Places.{IsPlace, offset_a, offset_b, offset_to}
+use Rattle.kernel_contract.specs.Places.{offset_a, offset_b, offset_to}
 use Rattle.kernel_contract.specs.Walks.{count, number, place_at}
 use Rattle.kernel_contract.specs.declared.axis.Axis.{Axis}
 use Rattle.kernel_contract.proofs.PartLemmas.{AreTargets-rows, AreTargets-same, Replaced-rows, Replaced-same}

@@ -1,5 +1,5 @@
 -- Places and their numbers, offsets and sums.
-use Rattle.std.proofs.Common.{◌≡◌, ℕ, ◌+◌, ◌-◌, ◌*◌, ◌/◌, ◌%◌, ◌^◌, ◌<◌, ◌≤◌, zero, suc, refl, ap, sym, ◌∙◌, arith, List, [], ◌∷◌, length, get_or, set, drop, lit<}
+use Rattle.std.proofs.Common.{◌≡◌, ℕ, ◌+◌, ◌*◌, ◌%◌, ◌<◌, ◌≤◌, zero, suc, refl, sym, ◌∙◌, arith, List, [], ◌∷◌, length, get_or, set, drop, lit<}
 use Rattle.std.proofs.Math.Nat.{mul-le-mul_left}
 use Rattle.std.proofs.lemmas.Nat.{mod-mul-add, div-mul-add, mod_below, div_below, div-add-mod'}
 use Rattle.kernel_contract.proofs.Numbers.{factor_pos}

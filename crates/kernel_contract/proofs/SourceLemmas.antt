@@ -1,5 +1,5 @@
 -- Offsets in the sources modulo 2^64, and sums over shared places as far as a walk has come.
-use Rattle.std.proofs.Common.{◌≡◌, ℕ, ◌+◌, ◌*◌, ◌%◌, ◌^◌, ◌<◌, ◌≤◌, ◌⊎◌, inl, inr, subst, List, [], ◌∷◌, get_or, refl, ap, sym, ◌∙◌, arith, add_comm}
+use Rattle.std.proofs.Common.{◌≡◌, ℕ, ◌+◌, ◌*◌, ◌%◌, ◌^◌, ◌<◌, ◌≤◌, ◌⊎◌, inl, inr, subst, List, [], ◌∷◌, get_or, ap, sym, ◌∙◌, arith, add_comm}
 use Rattle.std.proofs.Math.Nat.{add-mod-mod, mod-add-mod}
 use Rattle.kernel_contract.specs.Parts.{Reaches, sum_from}
 use Rattle.kernel_contract.specs.Places.{IsPlace, offset_a, offset_b, sum_over}

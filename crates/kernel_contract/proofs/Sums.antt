@@ -1,5 +1,5 @@
 -- Sums of a term over the first numbers.
-use Rattle.std.proofs.Common.{◌≡◌, ℕ, ◌+◌, ◌*◌, ◌%◌, ◌^◌, ◌<◌, zero, suc, refl, ap, sym, ◌∙◌, arith, add-one}
+use Rattle.std.proofs.Common.{◌≡◌, ℕ, ◌+◌, ◌*◌, ◌%◌, ◌^◌, ◌<◌, zero, suc, refl, ap, ◌∙◌, arith, add-one}
 use Rattle.std.proofs.Math.Nat.{mod-add-mod}
 use Rattle.kernel_contract.specs.Sum.{sum_to}
 use Rattle.kernel_contract.proofs.Numbers.{mod_both}

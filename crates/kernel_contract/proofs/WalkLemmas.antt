@@ -1,5 +1,5 @@
 -- One step of a walk.
-use Rattle.std.proofs.Common.{◌≡◌, ℕ, ◌+◌, ◌-◌, ◌*◌, ◌/◌, ◌%◌, ◌^◌, ◌<◌, ◌≤◌, zero, suc, refl, ap, sym, ◌∙◌, arith, List, [], ◌∷◌, length, get_or, set, drop, lit<, replicate, Bool, true, false, cond, nat_lt, ◌&&◌, get_or-set_other, ◌≢◌}
+use Rattle.std.proofs.Common.{◌≡◌, ℕ, ◌+◌, ◌*◌, ◌%◌, ◌^◌, ◌<◌, ◌≤◌, zero, suc, refl, ap, sym, ◌∙◌, arith, List, [], ◌∷◌, length, get_or, set, drop, lit<, replicate, Bool, true, false, cond, nat_lt, ◌&&◌, get_or-set_other, ◌≢◌}
 use Rattle.std.proofs.lemmas.Bool.Decides.{nat_tests}
 use Rattle.std.proofs.Math.Nat.{mod-add-mod, mod-eq_of_lt}
 use Rattle.kernel_contract.specs.declared.axis.Axis.{Axis}
@@ -10,7 +10,7 @@ use Rattle.kernel_contract.specs.declared.run.Run.{Run}
 use Rattle.kernel_contract.proofs.Steps.{front_step}
 use Rattle.kernel_contract.specs.declared.walk.Offsets.{Offsets}
 use Rattle.kernel_contract.proofs.Numbers.{mod_cancel}
-use Rattle.kernel_contract.proofs.PlaceLemmas.{axis_at, offset-set, number-set, count-drop, IsPlace-at, number_below, place_at-number}
+use Rattle.kernel_contract.proofs.PlaceLemmas.{axis_at, offset-set, number-set, count-drop, IsPlace-at, number_below}
 
 -- the offset of the next number along an axis
 pub offset_forth : (stride : Axis → ℕ) (axes : List Axis) (place : List ℕ) (j old new : ℕ) → j < length axes → IsPlace axes place

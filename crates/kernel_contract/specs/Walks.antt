@@ -1,7 +1,7 @@
 -- Places by number, the last axis first, and how far a walk over them has come.
 use Rattle.std.specs.Prelude.{ℕ, ◌≡◌, ◌+◌, ◌*◌, ◌/◌, ◌%◌, ◌^◌, ◌<◌, ◌≤◌, List, [], ◌∷◌, if◌then◌else◌, Bool, true, nat_lt}
 use Rattle.std.specs.Prelude.{slice_index}
-use Rattle.kernel_contract.specs.Places.{IsPlace, offset, offset_a, offset_b, offset_to}
+use Rattle.kernel_contract.specs.Places.{IsPlace, offset_a, offset_b, offset_to}
 use Rattle.kernel_contract.specs.declared.axis.Axis.{Axis}
 use Rattle.kernel_contract.specs.declared.walk.Offsets.{Offsets}
 use Rattle.kernel_contract.specs.declared.run.Run.{Run}

@@ -9,6 +9,8 @@ mod packing;
 mod run;
 mod splits;
 mod storing;
+#[cfg(test)]
+mod tests;
 mod tile_sums;
 mod tiled;
 mod tiles;

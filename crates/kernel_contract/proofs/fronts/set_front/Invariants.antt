@@ -1,4 +1,4 @@
-use Rattle.std.proofs.Common.{◌≡◌, ◌≤◌, ℕ, length}
+use Rattle.std.proofs.Common.{◌≡◌, length}
 use Rattle.kernel_contract.specs.Product.{FrontSet}
 use Rattle.kernel_contract.proofs.fronts.set_front.Given as goal
 

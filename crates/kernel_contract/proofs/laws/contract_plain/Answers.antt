@@ -1,4 +1,4 @@
-use Rattle.std.proofs.Common.{◌≡◌, ℕ, ◌<◌, ◌+◌, arith, refl, get_or, length, subst, rules}
+use Rattle.std.proofs.Common.{◌≡◌, ℕ, ◌<◌, ◌+◌, arith, refl, length, subst, rules}
 use Rattle.kernel_contract.specs.Parts.{Replaced}
 use Rattle.kernel_contract.specs.Walks.{count, gone}
 use Rattle.kernel_contract.proofs.ContractionLemmas.{AreTargets-further, Contracted-Replaced, Reaches-b, Reaches-further, Replaced-further, target_at, value_at}

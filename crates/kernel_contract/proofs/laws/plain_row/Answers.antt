@@ -1,6 +1,6 @@
-use Rattle.std.proofs.Common.{◌≡◌, ◌<◌, ◌≤◌, ◌+◌, ◌%◌, ◌^◌, ◌∙◌, arith, refl, get_or, length, subst, sym, ap, ℕ, rules}
-use Rattle.kernel_contract.specs.Parts.{AreTargets, Reaches, Replaced, sum_from}
-use Rattle.kernel_contract.specs.Places.{offset_a, offset_b, offset_to}
+use Rattle.std.proofs.Common.{◌≡◌, ◌<◌, ◌+◌, ◌%◌, ◌^◌, ◌∙◌, arith, refl, length, subst, sym, ℕ, rules}
+use Rattle.kernel_contract.specs.Parts.{Reaches, Replaced, sum_from}
+use Rattle.kernel_contract.specs.Places.{offset_b, offset_to}
 use Rattle.kernel_contract.specs.Walks.{count, gone, place_at}
 use Rattle.kernel_contract.proofs.PartLemmas.{Replaced-next}
 use Rattle.kernel_contract.proofs.SourceLemmas.{add-known, known-add, sum_from-known}

@@ -1,4 +1,4 @@
-use Rattle.std.proofs.Common.{◌≡◌, ◌+◌, ◌*◌, ◌%◌, ◌^◌, ◌<◌, ◌∙◌, arith, ap, sym, refl, get_or}
+use Rattle.std.proofs.Common.{◌≡◌, ◌+◌, ◌%◌, ◌^◌, ◌∙◌, arith, ap, sym, refl, get_or}
 use Rattle.kernel_contract.specs.Places.{offset_a, offset_b}
 use Rattle.kernel_contract.specs.Sum.{sum_to}
 use Rattle.kernel_contract.specs.Walks.{count, gone, place_at}

@@ -1,6 +1,5 @@
-use Rattle.std.proofs.Common.{◌≡◌, ◌<◌, ◌+◌, ◌%◌, ◌^◌, arith, refl, get_or, length, subst, sym, ap, ℕ, add-zero}
+use Rattle.std.proofs.Common.{◌≡◌, ◌+◌, ◌%◌, ◌^◌, arith, get_or, length, ap, ℕ}
 use Rattle.kernel_contract.specs.Product.{entry}
-use Rattle.kernel_contract.specs.Parts.{AreTargets}
 use Rattle.kernel_contract.proofs.PartLemmas.{Replaced-rows, Replaced-same}
 use Rattle.kernel_contract.proofs.storing.store.Goals as goal
 

@@ -1,4 +1,4 @@
-use Rattle.std.proofs.Common.{◌≡◌, ◌+◌, ◌<◌, ◌%◌, ◌^◌, ◌∙◌, arith, ap, add_comm, get_or, length, subst, sym, refl}
+use Rattle.std.proofs.Common.{◌≡◌, ◌+◌, ◌<◌, ◌%◌, ◌^◌, ◌∙◌, arith, ap, add_comm, get_or, length, sym, refl}
 use Rattle.kernel_contract.specs.Places.{offset_a, offset_b}
 use Rattle.kernel_contract.specs.Product.{row_of}
 use Rattle.kernel_contract.specs.Sum.{sum_to}

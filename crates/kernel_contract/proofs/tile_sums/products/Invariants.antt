@@ -1,8 +1,7 @@
-use Rattle.std.proofs.Common.{◌≡◌, ◌+◌, ◌-◌, ◌*◌, ◌%◌, ◌^◌, ◌<◌, ◌≤◌, ℕ, get_or}
-use Rattle.kernel_contract.specs.Places.{offset_a, offset_b}
+use Rattle.std.proofs.Common.{◌≡◌, ◌-◌, ◌%◌, ◌^◌, ◌<◌, ◌≤◌, ℕ, get_or}
 use Rattle.kernel_contract.specs.Product.{entry}
 use Rattle.kernel_contract.specs.Sum.{sum_to}
-use Rattle.kernel_contract.specs.Walks.{Stands, count, gone, place_at}
+use Rattle.kernel_contract.specs.Walks.{Stands, count, gone}
 use Rattle.kernel_contract.proofs.SourceLemmas.{term_at}
 use Rattle.kernel_contract.proofs.tile_sums.products.Given as goal
 

@@ -1,4 +1,4 @@
-use Rattle.std.proofs.Common.{◌≡◌, ◌<◌, ◌≤◌, ◌+◌, ◌%◌, ◌^◌, ◌∙◌, arith, refl, get_or, length, subst, sym, ap, ℕ, rules}
+use Rattle.std.proofs.Common.{◌<◌, ◌+◌, ◌%◌, ◌^◌, ◌∙◌, arith, get_or, length, subst, sym, ℕ, rules}
 use Rattle.kernel_contract.specs.Parts.{AreTargets, Reaches, sum_from}
 use Rattle.kernel_contract.specs.Places.{offset_a, offset_b, offset_to}
 use Rattle.kernel_contract.specs.Product.{entry}

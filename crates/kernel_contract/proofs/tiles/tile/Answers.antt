@@ -1,4 +1,4 @@
-use Rattle.std.proofs.Common.{arith, length-set, ◌≤◌, ◌<◌, ℕ, [], ◌∙◌, le_refl, length}
+use Rattle.std.proofs.Common.{arith, length-set, [], ◌∙◌}
 use Rattle.kernel_contract.proofs.Products.{Multiplied-row}
 use Rattle.kernel_contract.proofs.Steps.{back_step}
 use Rattle.kernel_contract.proofs.tiles.tile.Goals as goal

@@ -1,5 +1,5 @@
-use Rattle.std.proofs.Common.{◌∙◌, ◌+◌, ◌%◌, ◌^◌, ap}
-use Rattle.kernel_contract.specs.Product.{entry, row_of}
+use Rattle.std.proofs.Common.{◌∙◌}
+use Rattle.kernel_contract.specs.Product.{row_of}
 use Rattle.kernel_contract.proofs.Products.{row_by-front}
 use Rattle.kernel_contract.proofs.tiles.tile_front.Goals as goal
 

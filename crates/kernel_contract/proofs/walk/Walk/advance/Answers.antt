@@ -1,5 +1,5 @@
-use Rattle.std.proofs.Common.{◌≡◌, ◌+◌, ◌<◌, ◌≤◌, ◌-◌, suc, arith, length, rules, get_or}
-use Rattle.kernel_contract.proofs.PlaceLemmas.{axis_at, IsPlace-at, IsPlace-set}
+use Rattle.std.proofs.Common.{◌≡◌, ◌+◌, ◌<◌, ◌-◌, suc, arith, length, rules, get_or}
+use Rattle.kernel_contract.proofs.PlaceLemmas.{IsPlace-at, IsPlace-set}
 use Rattle.kernel_contract.proofs.WalkLemmas.{AreOffsets-forth, AreOffsets-back, number_forth, number_back, number_end}
 use Rattle.kernel_contract.proofs.walk.Walk.advance.Goals as goal
 

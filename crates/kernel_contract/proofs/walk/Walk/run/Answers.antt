@@ -1,4 +1,4 @@
-use Rattle.std.proofs.Common.{◌+◌, arith, ◌∙◌, length-set, length, ap}
+use Rattle.std.proofs.Common.{arith, ◌∙◌, length-set, length, ap}
 use Rattle.kernel_contract.specs.Walks.{gone}
 use Rattle.kernel_contract.proofs.WalkLemmas.{IsRun-of, IsRun-push, gone-le}
 use Rattle.kernel_contract.proofs.walk.Walk.run.Goals as goal

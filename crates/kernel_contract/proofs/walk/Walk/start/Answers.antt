@@ -1,4 +1,4 @@
-use Rattle.std.proofs.Common.{◌≡◌, ◌∙◌, sym, ap, ◌%◌, ◌^◌, replicate}
+use Rattle.std.proofs.Common.{◌∙◌, sym}
 use Rattle.kernel_contract.proofs.WalkLemmas.{IsPlace-zeros, offset-zeros, gone_none}
 use Rattle.kernel_contract.proofs.walk.Walk.start.Goals as goal
 
