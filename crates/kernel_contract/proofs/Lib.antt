@@ -1,4 +1,5 @@
 pub mod ContractionLemmas
+mod Examples
 pub mod Numbers
 pub mod OrderLemmas
 pub mod PartLemmas

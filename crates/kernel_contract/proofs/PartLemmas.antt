@@ -1,26 +1,11 @@
 -- Parts of a target that are replaced one after the other.
-use Rattle.std.proofs.Common.{◌≡◌, ℕ, ◌+◌, ◌-◌, ◌<◌, ◌≤◌, ◌⊎◌, inl, inr, List, length, get_or, set, refl, ap, sym, subst, ◌∙◌, arith, length-set, get_or-set_same, get_or-set_other}
+use Rattle.std.proofs.Common.{◌≡◌, ℕ, ◌+◌, ◌-◌, ◌<◌, ◌≤◌, ◌⊎◌, inl, inr, List, length, get_or, set, ap, sym, subst, ◌∙◌, arith, length-set, get_or-set_same, get_or-set_other}
 use Rattle.kernel_permute.specs.How.{combined}
 use Rattle.kernel_permute.specs.declared.how.How.{How}
 use Rattle.kernel_contract.specs.Parts.{AreTargets, Replaced}
 
 split : (j c : ℕ) → (j < c) ⊎ (c ≤ j)
 split j c = grind arith
-
--- no rows or no columns: nothing changes
-pub Replaced-no_rows : (how : How) (T V : ℕ → ℕ → ℕ) (n : ℕ) (old : List ℕ) → Replaced how T V 0 n old old
-Replaced-no_rows how T V n old = record {
-  named = λ i j h w. absurd (omega arith);
-  others = λ k h. refl;
-  len = refl;
-}
-
-pub Replaced-no_columns : (how : How) (T V : ℕ → ℕ → ℕ) (m : ℕ) (old : List ℕ) → Replaced how T V m 0 old old
-Replaced-no_columns how T V m old = record {
-  named = λ i j h w. absurd (omega arith);
-  others = λ k h. refl;
-  len = refl;
-}
 
 -- rows and columns may change places
 pub Replaced-turned : (how : How) (T V : ℕ → ℕ → ℕ) (m n : ℕ) (old new : List ℕ) → Replaced how T V m n old new

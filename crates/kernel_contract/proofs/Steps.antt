@@ -1,6 +1,5 @@
 -- What a write at an index keeps of the elements before and behind it.
-use Rattle.std.proofs.Common.{◌≡◌, ◌≢◌, ℕ, ◌+◌, ◌<◌, ◌≤◌, List, [], length, get_or, set, below_more, get_or-set_same, get_or-set_other, arith, subst, sym, ◌∙◌}
-use Rattle.kernel_contract.specs.Product.{entry}
+use Rattle.std.proofs.Common.{◌≡◌, ◌≢◌, ℕ, ◌+◌, ◌<◌, ◌≤◌, List, length, get_or, set, below_more, get_or-set_same, get_or-set_other, arith, subst, sym, ◌∙◌}
 
 -- what holds of each element before `i`, and of the one written there, holds before `i + 1`
 pub front_step : {A : Type 0} (P : ℕ → A → Type 0) (xs : List A) (d v : A) (i : ℕ) → i < length xs
@@ -17,11 +16,3 @@ back_step xs ys d v i back k h =
     let ne : k ≢ i = omega arith in
     let le : i ≤ k = omega arith in
     get_or-set_other xs i k v d ne ∙ back k le
-
--- a matrix whose rows before `i` are done, with one more row
-pub entries_step : (n : ℕ) (F : ℕ → ℕ → ℕ) (part : List (List ℕ)) (row : List ℕ) (i : ℕ) → i < length part
-    → ((r c : ℕ) → r < i → c < n → entry part r c ≡ F r c) → ((c : ℕ) → c < n → get_or row c 0 ≡ F i c)
-    → (r c : ℕ) → r < i + 1 → c < n → entry (set part i row) r c ≡ F r c
-entries_step n F part row i inside done here r c below column =
-    front_step (λ k found. (j : ℕ) → j < n → get_or found j 0 ≡ F k j) part [] row i inside
-    (λ k h j w. done k j h w) here r below c column

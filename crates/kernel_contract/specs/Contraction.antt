@@ -9,15 +9,21 @@ use Rattle.kernel_contract.specs.Places.{IsPlace, offset_a, offset_b, offset_to,
 abbrev pub target : List Axis → List Axis → List ℕ → List ℕ → ℕ
 target free_a free_b f g = offset_to free_a f + offset_to free_b g
 
--- the sum, over all shared places, of `a` there at `f` times `b` there at `g`, modulo 2^64
+-- the number of `a` at the places `f` and `s`, times that of `b` at `g` and `s`
+abbrev pub product_at : List ℕ → List ℕ → List Axis → List Axis → List Axis → List ℕ → List ℕ → List ℕ → ℕ
+product_at a b free_a free_b shared f g s =
+    slice_index a (offset_a free_a f + offset_a shared s) * slice_index b (offset_b free_b g + offset_b shared s)
+
+-- the sum of these products over all shared places, modulo 2^64
 abbrev pub value : List ℕ → List ℕ → List Axis → List Axis → List Axis → List ℕ → List ℕ → ℕ
-value a b free_a free_b shared f g =
-    sum_over shared (λ s. slice_index a (offset_a free_a f + offset_a shared s) * slice_index b (offset_b free_b g + offset_b shared s)) % 2 ^ 64
+value a b free_a free_b shared f g = sum_over shared (product_at a b free_a free_b shared f g) % 2 ^ 64
 
 -- all places lie in lists of these lengths, and no two of the target's are one
 pub record Fits (a b to : ℕ) (free_a free_b shared : List Axis) : Type 0 where
-  pub in_a : (f g s : List ℕ) → IsPlace free_a f → IsPlace free_b g → IsPlace shared s → offset_a free_a f + offset_a shared s < a
-  pub in_b : (f g s : List ℕ) → IsPlace free_a f → IsPlace free_b g → IsPlace shared s → offset_b free_b g + offset_b shared s < b
+  pub in_a : (f g s : List ℕ) → IsPlace free_a f → IsPlace free_b g → IsPlace shared s
+      → offset_a free_a f + offset_a shared s < a
+  pub in_b : (f g s : List ℕ) → IsPlace free_a f → IsPlace free_b g → IsPlace shared s
+      → offset_b free_b g + offset_b shared s < b
   pub in_to : (f g : List ℕ) → IsPlace free_a f → IsPlace free_b g → target free_a free_b f g < to
   pub differ : (f g h k : List ℕ) → IsPlace free_a f → IsPlace free_b g → IsPlace free_a h → IsPlace free_b k
       → target free_a free_b f g ≡ target free_a free_b h k → (f ≡ h) × (g ≡ k)

@@ -22,7 +22,8 @@ pub fn contract_plain<const FA: usize, const FB: usize, const S: usize>(
     shared: &[Axis; S],
     how: How,
 )
-    requires { Fits (length a.now) (length b.now) (length to.old) free_a.now free_b.now shared.now }
+    requires { Fits (length a.now) (length b.now) (length to.old)
+        free_a.now free_b.now shared.now }
     ensures { Contracted a.now b.now to.old to.new free_a.now free_b.now shared.now how }
 {
     let mut row = Walk::start(free_a);
@@ -42,11 +43,17 @@ fn plain_row<const FB: usize, const S: usize>(
     shared: &[Axis; S],
     how: How,
 )
-    requires in_a { (j : ℕ) → j < count free_b.now → Reaches offset_a shared.now row.a (length a.now) }
-    requires in_b { (j : ℕ) → j < count free_b.now → Reaches offset_b shared.now (offset_b free_b.now (place_at free_b.now j)) (length b.now) }
-    requires targets { AreTargets (λ i j. (row.to + offset_to free_b.now (place_at free_b.now j)) % 2 ^ 64) 1 (count free_b.now) (length to.old) }
-    ensures { Replaced how (λ i j. (row.to + offset_to free_b.now (place_at free_b.now j)) % 2 ^ 64)
-        (λ i j. sum_from a.now b.now shared.now row.a (offset_b free_b.now (place_at free_b.now j)))
+    requires in_a { (j : ℕ) → j < count free_b.now
+        → Reaches offset_a shared.now row.a (length a.now) }
+    requires in_b { (j : ℕ) → j < count free_b.now
+        → Reaches offset_b shared.now (offset_b free_b.now (place_at free_b.now j)) (length b.now) }
+    requires targets { AreTargets
+        (λ i j. (row.to + offset_to free_b.now (place_at free_b.now j)) % 2 ^ 64)
+        1 (count free_b.now) (length to.old) }
+    ensures { Replaced how
+        (λ i j. (row.to + offset_to free_b.now (place_at free_b.now j)) % 2 ^ 64)
+        (λ i j. sum_from a.now b.now shared.now row.a
+        (offset_b free_b.now (place_at free_b.now j)))
         1 (count free_b.now) to.old to.new }
 {
     let mut column = Walk::start(free_b);

@@ -76,7 +76,8 @@ fn longest(axes: &[Axis], side: Side) -> u64
 
 // the greatest sum of two offsets, as far as a `u64` goes
 fn reach(first: &[Axis], second: &[Axis], side: Side) -> u64
-    ensures { result ≡ min (greatest (stride_in side) first.now + greatest (stride_in side) second.now) (2 ^ 64 - 1) }
+    ensures { let both = greatest (stride_in side) first.now + greatest (stride_in side) second.now in
+        result ≡ min both (2 ^ 64 - 1) }
 {
     longest(first, side).saturating_add(longest(second, side))
 }

@@ -5,8 +5,10 @@ ghost use Rattle.kernel_contract.specs.Product.{entry};
 
 /// The numbers at each of four offsets plus each of four others, by rows.
 pub fn packed(from: &[u64], rows: &[usize; 4], columns: &[usize; 4]) -> [[u64; 4]; 4]
-    requires { (i j : ℕ) → i < 4 → j < 4 → (slice_index rows.now i + slice_index columns.now j) % 2 ^ 64 < length from.now }
-    ensures { (i j : ℕ) → i < 4 → j < 4 → entry result i j ≡ slice_index from.now ((slice_index rows.now i + slice_index columns.now j) % 2 ^ 64) }
+    requires { (i j : ℕ) → i < 4 → j < 4
+        → (slice_index rows.now i + slice_index columns.now j) % 2 ^ 64 < length from.now }
+    ensures { (i j : ℕ) → i < 4 → j < 4 → entry result i j
+        ≡ slice_index from.now ((slice_index rows.now i + slice_index columns.now j) % 2 ^ 64) }
 {
     [
         packed_row(from, rows[0], columns),
@@ -17,8 +19,10 @@ pub fn packed(from: &[u64], rows: &[usize; 4], columns: &[usize; 4]) -> [[u64; 4
 }
 
 fn packed_row(from: &[u64], row: usize, columns: &[usize; 4]) -> [u64; 4]
-    requires { (j : ℕ) → j < 4 → (row + slice_index columns.now j) % 2 ^ 64 < length from.now }
-    ensures { (j : ℕ) → j < 4 → slice_index result j ≡ slice_index from.now ((row + slice_index columns.now j) % 2 ^ 64) }
+    requires { (j : ℕ) → j < 4
+        → (row + slice_index columns.now j) % 2 ^ 64 < length from.now }
+    ensures { (j : ℕ) → j < 4 → slice_index result j
+        ≡ slice_index from.now ((row + slice_index columns.now j) % 2 ^ 64) }
 {
     [
         number_at(from, row, columns[0]),

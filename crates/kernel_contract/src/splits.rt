@@ -20,7 +20,8 @@ pub fn contract_any(
     requires dimensions_a { length free_a.now + length shared.now ≤ 6 }
     requires dimensions_b { length free_b.now + length shared.now ≤ 6 }
     requires dimensions_to { length free_a.now + length free_b.now ≤ 6 }
-    requires fits { Fits (length a.now) (length b.now) (length to.old) free_a.now free_b.now shared.now }
+    requires fits { Fits (length a.now) (length b.now) (length to.old)
+        free_a.now free_b.now shared.now }
     ensures { Contracted a.now b.now to.old to.new free_a.now free_b.now shared.now how }
 {
     match shared.len() {
@@ -74,7 +75,8 @@ fn with_no_shared(
     requires dimensions_a { length free_a.now ≤ 6 }
     requires dimensions_b { length free_b.now ≤ 6 }
     requires dimensions_to { length free_a.now + length free_b.now ≤ 6 }
-    requires fits { Fits (length a.now) (length b.now) (length to.old) free_a.now free_b.now shared.now }
+    requires fits { Fits (length a.now) (length b.now) (length to.old)
+        free_a.now free_b.now shared.now }
     ensures { Contracted a.now b.now to.old to.new free_a.now free_b.now shared.now how }
 {
     splits!(a, b, to, free_a, free_b, shared, how; 0;
@@ -101,7 +103,8 @@ fn with_one_shared(
     requires dimensions_a { length free_a.now ≤ 5 }
     requires dimensions_b { length free_b.now ≤ 5 }
     requires dimensions_to { length free_a.now + length free_b.now ≤ 6 }
-    requires fits { Fits (length a.now) (length b.now) (length to.old) free_a.now free_b.now shared.now }
+    requires fits { Fits (length a.now) (length b.now) (length to.old)
+        free_a.now free_b.now shared.now }
     ensures { Contracted a.now b.now to.old to.new free_a.now free_b.now shared.now how }
 {
     splits!(a, b, to, free_a, free_b, shared, how; 1;
@@ -127,7 +130,8 @@ fn with_two_shared(
     requires dimensions_a { length free_a.now ≤ 4 }
     requires dimensions_b { length free_b.now ≤ 4 }
     requires dimensions_to { length free_a.now + length free_b.now ≤ 6 }
-    requires fits { Fits (length a.now) (length b.now) (length to.old) free_a.now free_b.now shared.now }
+    requires fits { Fits (length a.now) (length b.now) (length to.old)
+        free_a.now free_b.now shared.now }
     ensures { Contracted a.now b.now to.old to.new free_a.now free_b.now shared.now how }
 {
     splits!(a, b, to, free_a, free_b, shared, how; 2;
@@ -152,7 +156,8 @@ fn with_three_shared(
     requires dimensions_a { length free_a.now ≤ 3 }
     requires dimensions_b { length free_b.now ≤ 3 }
     requires dimensions_to { length free_a.now + length free_b.now ≤ 6 }
-    requires fits { Fits (length a.now) (length b.now) (length to.old) free_a.now free_b.now shared.now }
+    requires fits { Fits (length a.now) (length b.now) (length to.old)
+        free_a.now free_b.now shared.now }
     ensures { Contracted a.now b.now to.old to.new free_a.now free_b.now shared.now how }
 {
     splits!(a, b, to, free_a, free_b, shared, how; 3;
@@ -176,7 +181,8 @@ fn with_four_shared(
     requires dimensions_a { length free_a.now ≤ 2 }
     requires dimensions_b { length free_b.now ≤ 2 }
     requires dimensions_to { length free_a.now + length free_b.now ≤ 6 }
-    requires fits { Fits (length a.now) (length b.now) (length to.old) free_a.now free_b.now shared.now }
+    requires fits { Fits (length a.now) (length b.now) (length to.old)
+        free_a.now free_b.now shared.now }
     ensures { Contracted a.now b.now to.old to.new free_a.now free_b.now shared.now how }
 {
     splits!(a, b, to, free_a, free_b, shared, how; 4;
@@ -199,7 +205,8 @@ fn with_five_shared(
     requires dimensions_a { length free_a.now ≤ 1 }
     requires dimensions_b { length free_b.now ≤ 1 }
     requires dimensions_to { length free_a.now + length free_b.now ≤ 6 }
-    requires fits { Fits (length a.now) (length b.now) (length to.old) free_a.now free_b.now shared.now }
+    requires fits { Fits (length a.now) (length b.now) (length to.old)
+        free_a.now free_b.now shared.now }
     ensures { Contracted a.now b.now to.old to.new free_a.now free_b.now shared.now how }
 {
     splits!(a, b, to, free_a, free_b, shared, how; 5;
@@ -221,7 +228,8 @@ fn with_six_shared(
     requires dimensions_a { length free_a.now ≤ 0 }
     requires dimensions_b { length free_b.now ≤ 0 }
     requires dimensions_to { length free_a.now + length free_b.now ≤ 6 }
-    requires fits { Fits (length a.now) (length b.now) (length to.old) free_a.now free_b.now shared.now }
+    requires fits { Fits (length a.now) (length b.now) (length to.old)
+        free_a.now free_b.now shared.now }
     ensures { Contracted a.now b.now to.old to.new free_a.now free_b.now shared.now how }
 {
     splits!(a, b, to, free_a, free_b, shared, how; 6;

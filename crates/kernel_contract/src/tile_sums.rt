@@ -26,9 +26,12 @@ pub fn products<const S: usize>(
     requires few_columns { columns.now.len ≤ 4 }
     requires filled_rows { IsFilled rows.now }
     requires filled_columns { IsFilled columns.now }
-    requires in_a { (i : ℕ) → i < rows.now.len → Reaches offset_a shared.now (slice_index rows.now.a i) (length a.now) }
-    requires in_b { (j : ℕ) → j < columns.now.len → Reaches offset_b shared.now (slice_index columns.now.b j) (length b.now) }
-    ensures { (i j : ℕ) → i < rows.now.len → j < columns.now.len → entry result i j ≡ sum_from a.now b.now shared.now (slice_index rows.now.a i) (slice_index columns.now.b j) }
+    requires in_a { (i : ℕ) → i < rows.now.len
+        → Reaches offset_a shared.now (slice_index rows.now.a i) (length a.now) }
+    requires in_b { (j : ℕ) → j < columns.now.len
+        → Reaches offset_b shared.now (slice_index columns.now.b j) (length b.now) }
+    ensures { (i j : ℕ) → i < rows.now.len → j < columns.now.len → entry result i j
+        ≡ sum_from a.now b.now shared.now (slice_index rows.now.a i) (slice_index columns.now.b j) }
 {
     let mut sums = [[0u64; 4]; 4];
     let mut walk = Walk::start(shared);

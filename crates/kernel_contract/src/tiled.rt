@@ -26,7 +26,8 @@ pub fn contract<const FA: usize, const FB: usize, const S: usize>(
     shared: &[Axis; S],
     how: How,
 )
-    requires { Fits (length a.now) (length b.now) (length to.old) free_a.now free_b.now shared.now }
+    requires { Fits (length a.now) (length b.now) (length to.old)
+        free_a.now free_b.now shared.now }
     ensures { Contracted a.now b.now to.old to.new free_a.now free_b.now shared.now how }
 {
     let mut rows = Walk::start(free_a);
@@ -49,11 +50,17 @@ fn across<const FB: usize, const S: usize>(
     requires some_rows { 1 ≤ rows.now.len }
     requires few_rows { rows.now.len ≤ 4 }
     requires filled_rows { IsFilled rows.now }
-    requires in_a { (i j : ℕ) → i < rows.now.len → j < count free_b.now → Reaches offset_a shared.now (slice_index rows.now.a i) (length a.now) }
-    requires in_b { (j : ℕ) → j < count free_b.now → Reaches offset_b shared.now (offset_b free_b.now (place_at free_b.now j)) (length b.now) }
-    requires targets { AreTargets (λ i j. (slice_index rows.now.to i + offset_to free_b.now (place_at free_b.now j)) % 2 ^ 64) rows.now.len (count free_b.now) (length to.old) }
-    ensures { Replaced how (λ i j. (slice_index rows.now.to i + offset_to free_b.now (place_at free_b.now j)) % 2 ^ 64)
-        (λ i j. sum_from a.now b.now shared.now (slice_index rows.now.a i) (offset_b free_b.now (place_at free_b.now j)))
+    requires in_a { (i j : ℕ) → i < rows.now.len → j < count free_b.now
+        → Reaches offset_a shared.now (slice_index rows.now.a i) (length a.now) }
+    requires in_b { (j : ℕ) → j < count free_b.now
+        → Reaches offset_b shared.now (offset_b free_b.now (place_at free_b.now j)) (length b.now) }
+    requires targets { AreTargets
+        (λ i j. (slice_index rows.now.to i + offset_to free_b.now (place_at free_b.now j)) % 2 ^ 64)
+        rows.now.len (count free_b.now) (length to.old) }
+    ensures { Replaced how
+        (λ i j. (slice_index rows.now.to i + offset_to free_b.now (place_at free_b.now j)) % 2 ^ 64)
+        (λ i j. sum_from a.now b.now shared.now (slice_index rows.now.a i)
+        (offset_b free_b.now (place_at free_b.now j)))
         rows.now.len (count free_b.now) to.old to.new }
 {
     let mut columns = Walk::start(free_b);

@@ -24,7 +24,8 @@ fn tile_row<const N: usize, const S: usize>(
     b: &[[u64; N]; S],
     to: &[u64; N],
 ) -> [u64; N]
-    ensures { (j : ℕ) → j < N → slice_index result j ≡ (slice_index to.now j + row_by row.now b.now S j) % 2 ^ 64 }
+    ensures { (j : ℕ) → j < N → slice_index result j
+        ≡ (slice_index to.now j + row_by row.now b.now S j) % 2 ^ 64 }
 {
     let mut sums = [0u64; N];
     for k in 0..S {
@@ -34,7 +35,8 @@ fn tile_row<const N: usize, const S: usize>(
 }
 
 fn added<const N: usize>(to: &[u64; N], sums: &[u64; N]) -> [u64; N]
-    ensures { (j : ℕ) → j < N → slice_index result j ≡ (slice_index to.now j + slice_index sums.now j) % 2 ^ 64 }
+    ensures { (j : ℕ) → j < N → slice_index result j
+        ≡ (slice_index to.now j + slice_index sums.now j) % 2 ^ 64 }
 {
     let mut more = *to;
     for j in 0..N {
@@ -45,7 +47,8 @@ fn added<const N: usize>(to: &[u64; N], sums: &[u64; N]) -> [u64; N]
 
 // sums with a row that is scaled
 fn with_scaled<const N: usize>(sums: &[u64; N], factor: u64, row: &[u64; N]) -> [u64; N]
-    ensures { (j : ℕ) → j < N → slice_index result j ≡ (slice_index sums.now j + factor * slice_index row.now j % 2 ^ 64) % 2 ^ 64 }
+    ensures { (j : ℕ) → j < N → slice_index result j
+        ≡ (slice_index sums.now j + factor * slice_index row.now j % 2 ^ 64) % 2 ^ 64 }
 {
     let mut more = *sums;
     for j in 0..N {

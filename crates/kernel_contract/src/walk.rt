@@ -1,7 +1,6 @@
 //! Walks over all places of a list of axes, the last axis fastest.
 
 ghost use Rattle.std.specs.Prelude.{◌≡◌, ◌+◌, ◌*◌, ◌%◌, ◌^◌, ◌<◌, ◌≤◌, true};
-ghost use Rattle.kernel_contract.specs.Places.{offset};
 ghost use Rattle.std.specs.List.{list_all};
 ghost use Rattle.kernel_contract.specs.Walks.{AreOffsets, IsRun, Stands, count, gone, is_long, place_at};
 
