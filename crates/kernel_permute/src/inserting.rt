@@ -1,0 +1,114 @@
+//! Parts of blocks put in.
+
+ghost use Rattle.std.specs.Prelude.{◌≡◌, ◌+◌, ◌≤◌, ◌<◌, [], ◌∷◌, length};
+ghost use Rattle.kernel_permute.specs.Inserting.{inserted};
+ghost use Rattle.kernel_permute.specs.Parts.{dims_of, sizes, starts};
+ghost use Rattle.kernel_permute.specs.Positions.{product};
+ghost use Rattle.kernel_permute.specs.Slicing.{IsPart};
+
+use crate::how::How;
+use crate::part::Part;
+use crate::strided::read_row;
+
+/// The source becomes the part of the target that begins at `at`; the rest of the target stays.
+pub fn put_in<const R: usize>(
+    from: &[u64],
+    size: &[u32; R],
+    to: &mut [u64],
+    dims: &[u32; R],
+    at: &[u32; R],
+    how: How,
+)
+    requires rank { R ≤ 6 }
+    requires part { IsPart at.now size.now dims.now }
+    requires from_length { length from.now ≡ product size.now }
+    requires to_length { length to.old ≡ product dims.now }
+    ensures value { to.new ≡ inserted how size.now from.now dims.now at.now to.old }
+{
+    if from.is_empty() {
+        return;
+    }
+    let mut parts = [Part {
+        at: 0,
+        size: 0,
+        dim: 0,
+    }; R];
+    for k in 0..R {
+        parts[k] = Part {
+            at: at[k] as usize,
+            size: size[k] as usize,
+            dim: dims[k] as usize,
+        };
+    }
+    insert(from, &parts, to, how);
+}
+
+// A row of the part.
+#[inline(always)]
+fn insert_row(from: &[u64], row: &Part, to: &mut [u64], how: How)
+    requires part { row.now.at + row.now.size ≤ row.now.dim }
+    requires from_length { length from.now ≡ row.now.size }
+    requires to_length { length to.old ≡ row.now.dim }
+    requires some { 0 < length from.now }
+    ensures value { to.new ≡ inserted how (row.now.size ∷ []) from.now (row.now.dim ∷ []) (row.now.at ∷ []) to.old }
+{
+    read_row(from, 0, 1, &mut to[row.at..row.at + row.size], how);
+}
+
+// A part that is not empty.
+#[cycle(insertion)]
+#[inline(always)]
+fn insert(from: &[u64], parts: &[Part], to: &mut [u64], how: How)
+    requires part { IsPart (starts parts.now) (sizes parts.now) (dims_of parts.now) }
+    requires from_length { length from.now ≡ product (sizes parts.now) }
+    requires to_length { length to.old ≡ product (dims_of parts.now) }
+    requires some { 0 < length from.now }
+    ensures value { to.new ≡ inserted how (sizes parts.now) from.now (dims_of parts.now) (starts parts.now) to.old }
+{
+    match parts {
+        [row] => insert_row(from, row, to, how),
+        _ => insert_block(from, parts, to, how),
+    }
+}
+
+// Row by row, so that only a block of rows costs a call.
+#[cycle(insertion)]
+#[inline(never)]
+fn insert_block(from: &[u64], parts: &[Part], to: &mut [u64], how: How)
+    requires part { IsPart (starts parts.now) (sizes parts.now) (dims_of parts.now) }
+    requires from_length { length from.now ≡ product (sizes parts.now) }
+    requires to_length { length to.old ≡ product (dims_of parts.now) }
+    requires some { 0 < length from.now }
+    ensures value { to.new ≡ inserted how (sizes parts.now) from.now (dims_of parts.now) (starts parts.now) to.old }
+{
+    match parts {
+        [] => to[0] = how.combine(to[0], from[0]),
+        [first, rest @ ..] => {
+            let width = to.len() / first.dim;
+            let inner = &mut to[first.at * width..(first.at + first.size) * width];
+            insert_rows(from, first.size, rest, inner, how);
+        }
+    }
+}
+
+// Rows that all lie in the part, each with the same part of the row.
+#[cycle(insertion)]
+#[inline(always)]
+fn insert_rows(from: &[u64], count: usize, rest: &[Part], to: &mut [u64], how: How)
+    requires part { IsPart (starts rest.now) (sizes rest.now) (dims_of rest.now) }
+    requires from_length { length from.now ≡ product (count ∷ sizes rest.now) }
+    requires to_length { length to.old ≡ product (count ∷ dims_of rest.now) }
+    requires some { 0 < length from.now }
+    ensures value { to.new ≡ inserted how (count ∷ sizes rest.now) from.now (count ∷ dims_of rest.now) (0 ∷ starts rest.now) to.old }
+{
+    let piece = from.len() / count;
+    let width = to.len() / count;
+    for i in 0..count {
+        insert(
+            &from[i * piece..(i + 1) * piece],
+            rest,
+            &mut to[i * width..(i + 1) * width],
+            how,
+        );
+    }
+}
