@@ -1,10 +1,12 @@
 -- Rows of numbers, the tuples of a box, and their places.
-use Rattle.std.proofs.Common.{◌≡◌, ℕ, zero, suc, ◌+◌, ◌*◌, ◌/◌, ◌%◌, ◌<◌, ◌≤◌, List, [], ◌∷◌, ◌++◌, map, length, refl, sym, ap, ◌∙◌, arith, add-zero}
+use Rattle.std.proofs.Common.{◌≡◌, ℕ, zero, suc, ◌+◌, ◌*◌, ◌/◌, ◌%◌, ◌<◌, ◌≤◌, List, [], ◌∷◌, ◌++◌, map, length, refl, sym, ap, ◌∙◌, subst, arith, add-zero}
+use Rattle.std.proofs.Math.Nat.{div-add-mod, div-lt_iff_lt-mul, mod-lt, mul-le-mul_right}
 use Rattle.std.proofs.lemmas.Simd.{map-map}
-use Rattle.std.proofs.lemmas.List.{map-append}
+use Rattle.std.proofs.lemmas.List.{map-append, length-map}
 use Rattle.std.proofs.lemmas.Nat.{div-mul-add, mod-mul-add}
 use Rattle.std.specs.Prelude.{flat_map}
 use Rattle.sial_syntax.specs.Boxes.{numbers_from, volume, tuples, place_of, tuple_at}
+use Rattle.sial_syntax.specs.BoxLaws.{PlaceOfTuple, TupleOfPlace, PlaceWithin, TupleWithin, TuplesCounted}
 
 -- one f for each number of a row that agrees with another
 pub map-from : {X : Type 0} (f g : ℕ → X) (first n : ℕ) → ((k : ℕ) → first ≤ k → k < (first + n) → f k ≡ g k) → map f (numbers_from first n) ≡ map g (numbers_from first n)
@@ -87,3 +89,56 @@ tuples-are (n ∷ ns) =
     0
     n
     ∙ ap (λ first. map (tuple_at (n ∷ ns)) (numbers_from first (n * volume ns))) (omega arith))
+
+-- how many tuples a box has
+pub tuples-counted : TuplesCounted
+tuples-counted dims =
+    ap length (tuples-are dims) ∙ (length-map (numbers_from 0 (volume dims)) (tuple_at dims) ∙ numbers-length 0 (volume dims))
+
+-- a number of rows before the end, and then a place in a row
+within-rows : (k n v p : ℕ) → k < n → p < v → (k * v + p) < n * v
+within-rows k n v p below inside =
+    let rows : (k + 1) * v ≤ n * v = mul-le-mul_right v (omega (arith, below)) in
+    let next : (k + 1) * v ≡ k * v + v = omega arith in
+    let least : (k * v + v) ≤ n * v = subst (λ x. x ≤ n * v) next rows in
+    omega (arith, least, inside)
+
+-- a box with a place has no length 0
+row-positive : (n v p : ℕ) → p < n * v → 0 < v
+row-positive n zero p below =
+    let none : n * 0 ≡ 0 = omega arith in
+    absurd (omega (arith, none, below))
+row-positive n (suc v) p below = omega arith
+
+-- the place of a tuple is one of the box's
+pub place-within : PlaceWithin
+place-within [] [] is = omega arith
+place-within [] (k ∷ ks) is = absurd is
+place-within (n ∷ ns) [] is = absurd is
+place-within (n ∷ ns) (k ∷ ks) is = within-rows k n (volume ns) (place_of ns ks) is.0 (place-within ns ks is.1)
+
+-- a tuple is that at its place
+pub tuple-of-place : TupleOfPlace
+tuple-of-place [] [] is = refl
+tuple-of-place [] (k ∷ ks) is = absurd is
+tuple-of-place (n ∷ ns) [] is = absurd is
+tuple-of-place (n ∷ ns) (k ∷ ks) is =
+    ap (λ q. q ∷ tuple_at ns ((k * volume ns + place_of ns ks) % volume ns)) (div-mul-add k (volume ns) (place_of ns ks) (place-within ns ks is.1))
+    ∙ (ap (λ q. k ∷ tuple_at ns q) (mod-mul-add k (volume ns) (place_of ns ks) (place-within ns ks is.1))
+    ∙ ap (λ t. k ∷ t) (tuple-of-place ns ks is.1))
+
+-- at each place of a box is one of its tuples
+pub tuple-within : TupleWithin
+tuple-within [] place below = tt
+tuple-within (n ∷ ns) place below =
+    let some = row-positive n (volume ns) place below in
+    ((div-lt_iff_lt-mul some).1 below, tuple-within ns (place % volume ns) (mod-lt place some))
+
+-- a place is that of its tuple
+pub place-of-tuple : PlaceOfTuple
+place-of-tuple [] place below = omega (arith, below)
+place-of-tuple (n ∷ ns) place below =
+    let some = row-positive n (volume ns) place below in
+    let whole : volume ns * (place / volume ns) + place % volume ns ≡ place = div-add-mod place (volume ns) in
+    let turned : place / volume ns * volume ns ≡ volume ns * (place / volume ns) = omega arith in
+    ap (λ q. place / volume ns * volume ns + q) (place-of-tuple ns (place % volume ns) (mod-lt place some)) ∙ (ap (λ q. q + place % volume ns) turned ∙ whole)
