@@ -12,3 +12,4 @@ pub mod Rest
 pub mod Accepted
 pub mod Costs
 pub mod Course
+pub mod Laws

@@ -2,6 +2,7 @@
 #![tactic(auto)]
 
 mod clash;
+pub mod laws;
 mod standing;
 mod trap;
 

@@ -1,7 +1,7 @@
 -- How the plain tree of a body begins.
-use Rattle.std.proofs.Common.{◌≡◌, ℕ, ◌+◌, ◌<◌, List, [], ◌∷◌, length, drop, slice_index_or, ap, sym, ◌∙◌}
+use Rattle.std.proofs.Common.{◌≡◌, ℕ, ◌+◌, ◌<◌, List, ◌∷◌, length, drop, slice_index_or, ap, sym, ◌∙◌}
 use Rattle.std.proofs.lemmas.List.{drop_more}
-use Rattle.sial_syntax.specs.Tree.{Block, Then, Plain, PrintScalar, block, plain_stmt, plain_form, plain_layer, with_line}
+use Rattle.sial_syntax.specs.Tree.{Then, Plain, PrintScalar, block, plain_stmt, plain_form, plain_layer, with_line}
 use Rattle.sial_syntax.specs.declared.statement.Form as form
 use Rattle.sial_syntax.specs.declared.statement.Form.{fold_out-Form}
 use Rattle.sial_syntax.specs.declared.statement.Stmt.{Stmt, fold_out-Stmt}

@@ -6,6 +6,7 @@ mod array;
 mod classes;
 mod condition;
 mod index;
+pub mod laws;
 mod operand;
 mod program;
 mod statement;
