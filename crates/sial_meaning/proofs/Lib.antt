@@ -1,1 +1,8 @@
 mod Worked
+pub mod WorkedFirstRuns
+pub mod WorkedSmallRuns
+pub mod WorkedClashesRuns
+pub mod WorkedOrdersRuns
+pub mod WorkedPardosRuns
+pub mod WorkedServedRuns
+pub mod WorkedRulesAre

@@ -2,6 +2,7 @@
 #![tactic(auto)]
 
 mod clash;
+pub mod programs;
 mod trap;
 
 pub use clash::Clash;
