@@ -6,3 +6,5 @@ pub mod WorkedOrdersRuns
 pub mod WorkedPardosRuns
 pub mod WorkedServedRuns
 pub mod WorkedRulesAre
+pub mod PairLemmas
+pub mod RefusalLemmas

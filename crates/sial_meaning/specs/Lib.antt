@@ -20,3 +20,4 @@ pub mod WorkedOrders
 pub mod WorkedPardos
 pub mod WorkedServed
 pub mod WorkedRules
+pub mod AcceptedLaws

@@ -1,6 +1,7 @@
 //! What a SIAL program means when one worker runs it alone, and which programs every schedule agrees on.
 #![tactic(auto)]
 
+pub mod acceptance;
 mod clash;
 pub mod programs;
 mod trap;
