@@ -1,8 +1,10 @@
 //! What a SIAL program means when one worker runs it alone, and which programs every schedule agrees on.
 #![tactic(auto)]
 
+pub mod acceptance;
 mod clash;
 pub mod laws;
+pub mod programs;
 mod standing;
 mod trap;
 
