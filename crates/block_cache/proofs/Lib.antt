@@ -1,1 +1,3 @@
 pub mod RecencyLemmas
+pub mod DistinctLemmas
+pub mod FitsLemmas

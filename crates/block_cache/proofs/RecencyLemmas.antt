@@ -1,7 +1,7 @@
 -- Taking a block out of a list, and the last block that fails a test.
-use Rattle.std.proofs.Common.{◌≡◌, ℕ, zero, suc, ◌+◌, ◌<◌, ◌≤◌, Bool, true, false, cond, if◌then◌else◌, not, ◌||◌, ◌&&◌, List, [], ◌∷◌, ◌++◌, length, get_or, Option, Some, None, IfSome, IfNone, IsTrue, ◌⊎◌, inl, inr, refl, sym, ap, ◌∙◌, subst, arith}
+use Rattle.std.proofs.Common.{◌≡◌, ℕ, suc, ◌+◌, ◌<◌, ◌≤◌, Bool, true, false, cond, if◌then◌else◌, not, ◌||◌, ◌&&◌, List, [], ◌∷◌, ◌++◌, length, get_or, Option, Some, None, IfSome, IfNone, IsTrue, ◌⊎◌, inl, inr, refl, sym, ap, ◌∙◌, subst, arith}
 use Rattle.std.proofs.Math.Seq.{get_or-append_seam}
-use Rattle.std.specs.List.{list_any, list_all, filter, remove}
+use Rattle.std.specs.List.{list_all, filter, remove}
 use Rattle.block_cache.specs.declared.found.Found.TheVariants.{Cached, Awaited, Absent}
 use Rattle.block_cache.specs.Recency.{Block, Recency, found_in, same_block, has_block, without, spares, IsLastFailing, Evicts}
 

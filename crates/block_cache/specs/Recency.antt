@@ -1,5 +1,5 @@
 -- What a contract sees of a cache: its blocks in the order of their last use, and those that are awaited.
-use Rattle.std.specs.Prelude.{◌≡◌, ℕ, ◌==◌, ◌&&◌, ◌||◌, if◌then◌else◌, Bool, true, false, not, List, [], ◌∷◌, ◌++◌, length, IsTrue, Option, Some, None}
+use Rattle.std.specs.Prelude.{◌≡◌, ℕ, ◌+◌, ◌≤◌, ◌==◌, ◌&&◌, ◌||◌, if◌then◌else◌, Bool, true, false, not, List, [], ◌∷◌, ◌++◌, length, IsTrue, Option, Some, None}
 use Rattle.std.specs.List.{list_any, list_all, filter}
 use Rattle.sial_syntax.specs.declared.access.Class.{Class}
 use Rattle.sial_syntax.specs.declared.access.Class.TheVariants.{Distributed, Served}
@@ -47,6 +47,17 @@ is_it (Some one) block = same_block one block
 -- whether a block is one of these two
 abbrev pub spares : Option Block → Option Block → Block → Bool
 spares first second block = is_it first block || is_it second block
+
+-- whether each block stands once
+abbrev pub are_distinct : List Block → Bool
+are_distinct [] = true
+are_distinct (block ∷ blocks) = not (has_block blocks block) && are_distinct blocks
+
+-- no block is cached or awaited twice, and they have their places
+pub record Fits (cached awaited : List Block) (places : ℕ) : Type 0 where
+  pub distinct : IsTrue (are_distinct (cached ++ awaited))
+  pub room : length cached + length awaited ≤ places
+  pub most : places ≤ 64
 
 -- whether a block is cached, awaited or neither
 abbrev pub found_in : Recency → Block → Found

@@ -19,14 +19,13 @@ pub struct Cache {
 }
 
 impl Model for Cache {
-    ghost use Rattle.std.specs.Prelude.{◌+◌, ◌≤◌, length};
-    ghost use Rattle.block_cache.specs.Recency.{Recency};
+    ghost use Rattle.block_cache.specs.Recency.{Recency, Fits};
 
     ghost Value = { Recency };
 
     ghost view = { λ c. record { cached = c.cached.items; awaited = c.awaited.items; places = c.places } };
 
-    ghost invariant = { λ c. (length c.cached.items + length c.awaited.items ≤ c.places) × (c.places ≤ 64) };
+    ghost invariant = { λ c. Fits c.cached.items c.awaited.items c.places };
 }
 
 impl Cache {
@@ -100,6 +99,7 @@ impl Cache {
         second: Option<(Class, u32)>,
     ) -> Option<(Class, u32)>
         ensures evicted { IfSome result (Evicts self.old self.new first second) }
+        ensures gone { IfSome result (λ block. found_in self.new block ≡ Found.Absent) }
 
         // None comes exactly where every cached block is one of the two.
         ensures none { IfNone result (IsTrue (list_all (spares first second) self.old.cached)) }
@@ -176,8 +176,8 @@ fn take_class_out(blocks: &mut ArrayVec<(Class, u32), 64>, class: Class)
 }
 
 // Whether two classes are one.
-fn is_same_class(one: Class, other: Class) -> bool
-    ensures { result ≡ same_class one other }
+fn is_same_class(class: Class, other: Class) -> bool
+    ensures { result ≡ same_class class other }
 {
-    one == other
+    class == other
 }

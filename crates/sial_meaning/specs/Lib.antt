@@ -12,3 +12,13 @@ pub mod Rest
 pub mod Accepted
 pub mod Costs
 pub mod Course
+pub mod Laws
+pub mod Runs
+pub mod WorkedFirst
+pub mod WorkedSmall
+pub mod WorkedClashes
+pub mod WorkedOrders
+pub mod WorkedPardos
+pub mod WorkedServed
+pub mod WorkedRules
+pub mod AcceptedLaws

@@ -11,3 +11,4 @@ pub mod Agreeing
 pub mod Shapes
 pub mod Sides
 pub mod SideRules
+pub mod BoxLaws

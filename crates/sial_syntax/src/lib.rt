@@ -6,9 +6,12 @@ mod array;
 mod classes;
 mod condition;
 mod index;
+pub mod laws;
 mod operand;
 mod program;
 mod statement;
+#[cfg(test)]
+mod tests;
 mod text;
 mod tuple;
 

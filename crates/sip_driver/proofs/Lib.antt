@@ -1,7 +1,14 @@
+mod BlocksSeen
 mod FitsLemmas
+mod FormLaws
 mod NumbersFrom
 mod NumbersLemmas
+mod Places
+mod Printed
 mod RanLemmas
+mod Sequential
+mod StartLemmas
+mod StartLaws
 mod StatementsLemmas
 mod TopLemmas
 mod WroteLemmas

@@ -7,6 +7,8 @@ ghost use Rattle.sip_driver.specs.First.{seen, IsPath, printed_text};
 
 use crate::fault::RunFault;
 use crate::first::First;
+use crate::start::start;
+use crate::statements::run_body;
 use sip_files::Sink;
 use std::alloc::Global;
 
@@ -21,9 +23,13 @@ pub fn run<K: Sink>(alloc: Global, first: &First, out: &mut K) -> Result<(), Run
     ensures never_falls { K.faults out.old ≤ K.faults out.new }
     ensures kept { K.kept out.new ≡ K.kept out.old }
 {
-    let _vec: Vec<u8> = Vec::new(alloc);
-    if first.lengths.is_empty() {
-        return Err(RunFault::OutOfMemory);
-    }
-    Err(RunFault::OutOfMemory)
+    let mut machine = start(alloc, first)?;
+    run_body(
+        alloc,
+        first,
+        None,
+        first.program.body.as_slice(),
+        &mut machine,
+        out,
+    )
 }

@@ -1,5 +1,6 @@
--- Several writes in a row, as one.
-use Rattle.std.proofs.Common.{◌≡◌, ℕ, List, [], ◌++◌, Option, Some, None, Result, Ok, Err, refl, sym, ap, ◌∙◌, subst, append_assoc, append-nil, arith}
+-- Several writes in a row, as one. A caller answers a return by `then_wrote result c.in_ok-x.ensures c.y.ensures`, and the exit of a `?` by
+-- `stopped rest c.from_residual.result c.in_err-x.ensures c.from_residual.ensures.0`.
+use Rattle.std.proofs.Common.{◌≡◌, ℕ, List, [], ◌++◌, Option, Some, None, Result, Ok, Err, IsErr, refl, sym, ap, ◌∙◌, subst, append_assoc, append-nil, arith}
 use Rattle.sip_files.specs.Kept.{Kept}
 use Rattle.sip_files.specs.Sink.{Gains, GainsPart, Wrote}
 
@@ -37,8 +38,9 @@ then_wrote {old = old} {mid = mid} {new = new} {xs = xs} {ys = ys} (Err e) first
 }
 
 -- a write that failed is a first part of more
-pub stopped : {E D : Type 0} {old new : Option (List ℕ)} {before now : ℕ} {was is : Kept} {xs : List ℕ} {e : E} (ys : List ℕ) (d : D) → Wrote old new before now was is xs (Err e) → Wrote old new before now was is (xs ++ ys) (Err d)
-stopped {old = old} {new = new} {xs = xs} ys d first = record {
+pub stopped : {E D : Type 0} {old new : Option (List ℕ)} {before now : ℕ} {was is : Kept} {xs : List ℕ} {e : E} (ys : List ℕ) (result : Result (Unit {0}) D) → Wrote old new before now was is xs (Err e) → IsErr result → Wrote old new before now was is (xs ++ ys) result
+stopped ys (Ok done) first failed = absurd cc
+stopped {old = old} {new = new} {xs = xs} ys (Err d) first failed = record {
   ok = tt;
   err = GainsPart-append old new xs ys first.err;
   later = first.later;

@@ -1,7 +1,10 @@
 -- A count for each kind of call.
-use Rattle.std.specs.Prelude.{ℕ}
+use Rattle.std.specs.Prelude.{ℕ, Result, Ok, Err}
 use Rattle.sip_files.specs.declared.call.Call.{Call}
 use Rattle.sip_files.specs.declared.call.Call.TheVariants.{Load, Clear, Append, ReadAt, WriteAt}
+use Rattle.sip_files.specs.Plan.{one_more}
+use Rattle.sip_files.specs.declared.fault.LoadFault.{LoadFault}
+use Rattle.sip_files.specs.declared.fault.LoadFault.TheVariants.{Failed, Missing, TooLong, OutOfMemory}
 use Rattle.sip_files.specs.declared.counts.Counts.{Counts}
 
 -- the count of one kind
@@ -12,6 +15,14 @@ count_of counts Append = counts.append
 count_of counts ReadAt = counts.read_at
 count_of counts WriteAt = counts.write_at
 
+-- one more of a kind
+abbrev pub with_one_more : Counts → Call → Counts
+with_one_more counts Load = record counts { load = one_more counts.load }
+with_one_more counts Clear = record counts { clear = one_more counts.clear }
+with_one_more counts Append = record counts { append = one_more counts.append }
+with_one_more counts ReadAt = record counts { read_at = one_more counts.read_at }
+with_one_more counts WriteAt = record counts { write_at = one_more counts.write_at }
+
 -- no call failed
 abbrev pub no_faults : Counts
 no_faults = record { load = 0; clear = 0; append = 0; read_at = 0; write_at = 0 }
@@ -20,3 +31,11 @@ no_faults = record { load = 0; clear = 0; append = 0; read_at = 0; write_at = 0 
 pub record HostCounts : Type 0 where
   pub faults : Counts
   pub overlong : ℕ
+
+-- what the host's files count of a load: each failure, each load that read more than its limit, and nothing else
+abbrev pub after_answer : HostCounts → Result (Unit {0}) LoadFault → HostCounts
+after_answer counts (Ok done) = counts
+after_answer counts (Err Failed) = record counts { faults = with_one_more counts.faults Load }
+after_answer counts (Err Missing) = counts
+after_answer counts (Err TooLong) = record counts { overlong = one_more counts.overlong }
+after_answer counts (Err OutOfMemory) = counts

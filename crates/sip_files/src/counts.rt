@@ -1,9 +1,8 @@
 //! A count for each kind of call.
 
 ghost use Rattle.std.specs.Prelude.{◌≡◌};
-ghost use Rattle.sip_files.specs.Counts.{count_of};
+ghost use Rattle.sip_files.specs.Counts.{count_of, with_one_more};
 ghost use Rattle.sip_files.specs.Files.{CountsOnly};
-ghost use Rattle.sip_files.specs.Plan.{one_more};
 
 use crate::call::Call;
 
@@ -20,7 +19,7 @@ pub struct Counts {
 impl Counts {
     /// Counts one more of a kind.
     pub fn raise(&mut self, call: Call)
-        ensures raised { count_of self.new call ≡ one_more (count_of self.old call) }
+        ensures after { self.new ≡ with_one_more self.old call }
         ensures only { CountsOnly call (count_of self.old) (count_of self.new) }
     {
         match call {

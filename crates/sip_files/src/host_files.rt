@@ -42,8 +42,10 @@ impl<'a, R: std::rt::Files> HostFiles<'a, R> {
 }
 
 impl<'a, R: std::rt::Files> Files for HostFiles<'a, R> {
-    ghost use Rattle.std.specs.Prelude.{[], None};
-    ghost use Rattle.sip_files.specs.Counts.{count_of};
+    ghost use Rattle.std.specs.Prelude.{◌≡◌, ◌≤◌, [], Some, None, length, OnOk, OnErr, IsErrOf};
+    ghost use Rattle.sip_files.specs.Files.{Rose, ReadsMore, CountsOnly, CountsOverlong, WhereTold, IsPartOf};
+    ghost use Rattle.sip_files.specs.Counts.{count_of, after_answer};
+    ghost use Rattle.sip_files.specs.declared.call.Call.TheVariants.{Load};
 
     ghost told = { λ _. None };
 
@@ -53,7 +55,21 @@ impl<'a, R: std::rt::Files> Files for HostFiles<'a, R> {
 
     ghost loans = { λ _. [] };
 
-    fn load(&mut self, name: &str, into: &mut Vec<u8>, most: u64) -> Result<(), LoadFault> {
+    fn load(&mut self, name: &str, into: &mut Vec<u8>, most: u64) -> Result<(), LoadFault>
+        requires { into.old.items ≡ [] }
+
+        ensures ok { OnOk result (WhereTold None name.now (λ held. held ≡ Some into.new.items)) }
+        ensures within { OnOk result (length into.new.items ≤ most) }
+        ensures part { OnErr result (WhereTold None name.now (IsPartOf into.new.items)) }
+        ensures missing { IsErrOf result LoadFault.Missing → ⊥ }
+        ensures long { IsErrOf result LoadFault.TooLong → ReadsMore self.old.overlong self.new.overlong most into.new.items }
+        ensures cause { IsErrOf result LoadFault.Failed → Rose self.old.faults.load self.new.faults.load }
+
+        // Each failure is counted, each load that read more than its limit, and nothing else.
+        ensures after { self.new ≡ after_answer self.old result }
+        ensures counts { CountsOnly Load (count_of self.old.faults) (count_of self.new.faults) }
+        ensures overlong { CountsOverlong self.old.overlong self.new.overlong most into.new.items }
+    {
         let answer = read_file(self.runtime, name, into, most);
         match answer {
             Err(LoadFault::Failed) => self.faults.raise(Call::Load),

@@ -1,7 +1,9 @@
 //! A sink over a stream of the host.
 
-ghost use Rattle.std.specs.Prelude.{◌≡◌, None};
+ghost use Rattle.std.specs.Prelude.{◌≡◌, None, OnOk, OnErr};
 ghost use Rattle.sip_files.specs.Kept.{stands_alone};
+ghost use Rattle.sip_files.specs.Plan.{one_more};
+ghost use Rattle.sip_files.specs.Sink.{Wrote};
 
 use crate::fault::Failed;
 use crate::sink::Sink;
@@ -40,7 +42,13 @@ impl<W: Write + Drop> Sink for HostSink<W> {
 
     ghost kept = { λ _. stands_alone };
 
-    fn write(&mut self, bytes: &[u8]) -> Result<(), Failed> {
+    fn write(&mut self, bytes: &[u8]) -> Result<(), Failed>
+        ensures wrote { Wrote None None self.old self.new stands_alone stands_alone bytes.now result }
+
+        // Each failure is counted, and nothing else.
+        ensures ok { OnOk result (self.new ≡ self.old) }
+        ensures err { OnErr result (self.new ≡ one_more self.old) }
+    {
         let answer = write_whole(&mut self.stream, bytes);
         if answer.is_err() {
             self.faults = self.faults.saturating_add(1);

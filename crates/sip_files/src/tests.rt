@@ -1,7 +1,9 @@
 //! What the contracts leave to memory, to the host and to the reader's trust.
 
 use crate::host_files::read_all;
-use crate::{Call, Failed, Files, HostFiles, HostSink, LoadFault, MemoryFiles, MemorySink, Sink};
+use crate::{
+    Call, Failed, Files, HostFiles, HostSink, LoadFault, MemoryFiles, MemorySink, Sink, Stream,
+};
 use std::alloc::Global;
 use std::io::{self, ErrorKind, Read, Write};
 use std::test::Fail;
@@ -85,6 +87,17 @@ fn the_host_refuses_what_it_cannot_read(rt: HostRuntime) {
         let mut files = HostFiles::new(&rt);
         let mut bytes = Vec::new(rt.alloc());
         assert_eq!(rt; files.load(name, &mut bytes, 9), want, "{name}");
+    }
+}
+
+#[test]
+fn both_standard_streams_are_one_type(rt: HostRuntime) {
+    let mut sinks = [
+        HostSink::new(Stream::Out(rt.stdout())),
+        HostSink::new(Stream::Err(rt.stderr())),
+    ];
+    for sink in sinks.iter_mut() {
+        assert_eq!(rt; sink.write(b""), Ok(()));
     }
 }
 

@@ -1,6 +1,6 @@
-use Rattle.std.proofs.Common.{rules, ◌≡◌, ◌<◌, List, length, not, subst, sym}
+use Rattle.std.proofs.Common.{rules, ◌<◌, List, length, not, subst, sym}
 use Rattle.arrayvec.proofs.ArrayVecLemmas.{filter-from_retain}
-use Rattle.block_cache.specs.Recency.{Block, same_block, without}
+use Rattle.block_cache.specs.Recency.{Block, same_block}
 use Rattle.block_cache.proofs.RecencyLemmas.{length-without-lt}
 use Rattle.block_cache.proofs.cache.take_out.Goals as goal
 

@@ -1,0 +1,16 @@
+pub mod MixedLemmas
+pub mod RowsLemmas
+pub mod FreeSlots
+pub mod OccupiedLemmas
+pub mod Members
+pub mod LaidLemmas
+pub mod Taking
+pub mod OpenedLemmas
+pub mod WidestLemmas
+pub mod OneChange
+pub mod Leases
+pub mod Frames
+pub mod Counting
+pub mod Closing
+pub mod LeaseLists
+pub mod Laws

@@ -1,0 +1,12 @@
+pub mod Memory
+pub mod Changes
+pub mod Standing
+pub mod Mixed
+pub mod Opened
+pub mod Lends
+pub mod LendsLifted
+pub mod Occupied
+pub mod Laid
+pub mod Rows
+pub mod LendsRow
+pub mod Sound

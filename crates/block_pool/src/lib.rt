@@ -1,0 +1,24 @@
+//! Block memory in slots under leases.
+#![tactic(auto)]
+
+mod copies;
+mod how;
+mod lease;
+mod lifted;
+mod mix;
+mod out_of_memory;
+mod pool;
+mod rows;
+mod slots;
+mod state;
+
+pub use copies::{copy_between, copy_front};
+pub use how::How;
+pub use lease::{Awaiting, Cached, Owned, Sending};
+pub use lifted::Lifted;
+pub use out_of_memory::OutOfMemory;
+pub use pool::Pool;
+pub use state::State;
+
+#[cfg(test)]
+mod tests;

@@ -1,0 +1,136 @@
+//! Which slots are free, in a slab for each class.
+
+ghost use Rattle.std.specs.Prelude.{◌≡◌, ◌+◌, ◌<◌, ◌++◌, ◌≤◌, [], false, length, replicate, slice_index, slice_set, IfOk, OnOk};
+ghost use Rattle.block_pool.specs.Memory.{state_at, is_free, free_slots};
+
+use crate::state::State;
+use slab::Slab;
+use std::alloc::{AllocError, Global};
+use std::marker::Model;
+
+/// The run of slots of one class; a key of its slab is a slot of the run.
+#[derive(Drop)]
+pub(crate) struct Group {
+    first: usize,
+    table: Slab<()>,
+}
+
+/// The class and the state of each slot.
+#[derive(Drop)]
+pub(crate) struct Slots {
+    groups: Vec<Group>,
+    classes: Vec<u32>,
+    states: Vec<State>,
+}
+
+impl Model for Slots {
+    ghost use Rattle.block_pool.specs.Occupied.{Occupied, IsTied};
+
+    ghost Value = { Occupied };
+
+    ghost view = { λ s. record { classes = s.classes.items; states = s.states.items } };
+
+    ghost invariant = { λ s. IsTied s.groups.items s.classes.items s.states.items };
+}
+
+impl Slots {
+    ghost use Rattle.block_pool.specs.Occupied.{with_state};
+    ghost use Rattle.block_pool.specs.Opened.{classes_from};
+
+    // So many slots of each class, all free.
+    pub(crate) fn open(alloc: Global, counts: &[u32]) -> Result<Slots, AllocError>
+        requires { length counts.now ≤ 17 }
+        ensures classes { IfOk result (λ s. s.classes ≡ classes_from 0 counts.now) }
+        ensures states { IfOk result (λ s. s.states ≡ replicate (length (classes_from 0 counts.now)) State.Free) }
+    {
+        let mut groups = Vec::with_capacity(alloc, counts.len())?;
+        let mut classes = Vec::new(alloc);
+        for at in 0..counts.len() {
+            let group = new_group(alloc, classes.len(), counts[at])?;
+            groups.push(group)?;
+            add_class(&mut classes, at as u32, counts[at])?;
+        }
+        let states = vec![in alloc; State::Free; classes.len()]?;
+        Ok(Slots {
+            groups,
+            classes,
+            states,
+        })
+    }
+
+    // The class of each slot.
+    pub(crate) fn classes(&self) -> &[u32]
+        ensures { result.now ≡ self.now.classes }
+    {
+        self.classes.as_slice()
+    }
+
+    // How many slots of a class are free.
+    pub(crate) fn free(&self, class: u32) -> u32
+        ensures { result ≡ free_slots class self.now.classes self.now.states }
+    {
+        match self.groups.get(class as usize) {
+            Some(group) => (group.table.capacity() - group.table.len()) as u32,
+            None => 0,
+        }
+    }
+
+    // Takes a free slot of a class.
+    pub(crate) fn take(&mut self, class: u32, state: State) -> usize
+        requires free { 0 < free_slots class self.old.classes self.old.states }
+        requires state { is_free state ≡ false }
+        ensures was { state_at self.old.states result ≡ State.Free }
+        ensures within { result < length self.old.classes }
+        ensures class { slice_index self.old.classes result ≡ class }
+        ensures after { self.new ≡ with_state self.old result state }
+    {
+        let group = &mut self.groups[class as usize];
+        let slot = group.first + group.table.insert_reserved(());
+        self.states[slot] = state;
+        slot
+    }
+
+    // Frees a slot.
+    pub(crate) fn give(&mut self, slot: usize)
+        requires within { slot < length self.old.classes }
+        requires taken { is_free (state_at self.old.states slot) ≡ false }
+        ensures { self.new ≡ with_state self.old slot State.Free }
+    {
+        let group = &mut self.groups[self.classes[slot] as usize];
+        let _ = group.table.try_remove(slot - group.first);
+        self.states[slot] = State::Free;
+    }
+
+    // A slot that is not free has another state.
+    pub(crate) fn set(&mut self, slot: usize, state: State)
+        requires within { slot < length self.old.classes }
+        requires taken { is_free (state_at self.old.states slot) ≡ false }
+        requires state { is_free state ≡ false }
+        ensures { self.new ≡ with_state self.old slot state }
+    {
+        self.states[slot] = state;
+    }
+}
+
+// An empty slab of exactly this room.
+fn new_group(alloc: Global, first: usize, count: u32) -> Result<Group, AllocError>
+    ensures first { IfOk result (λ g. g.first ≡ first) }
+    ensures room { IfOk result (λ g. g.table.capacity ≡ count) }
+    ensures empty { IfOk result (λ g. g.table.slots ≡ []) }
+{
+    let table = Slab::with_capacity(alloc, count as usize)?;
+    if table.capacity() != count as usize {
+        return Err(AllocError);
+    }
+    Ok(Group { first, table })
+}
+
+// So many slots of a class after the others.
+fn add_class(classes: &mut Vec<u32>, class: u32, count: u32) -> Result<(), AllocError>
+    ensures { OnOk result (classes.new.items ≡ classes.old.items ++ replicate count class) }
+{
+    for _ in 0..count {
+        classes.push(class)?;
+    }
+    Ok(())
+}

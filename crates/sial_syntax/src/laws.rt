@@ -1,0 +1,25 @@
+//! What the definitions of boxes say together: laws that proofs above cite, with nothing to run.
+
+ghost use Rattle.sial_syntax.specs.BoxLaws.{NumbersOfRank, NumbersWithin, PlaceOfTuple, PlaceWithin, RankOfNumbers, RankWithin, TupleOfPlace, TuplesCounted, TuplesInOrder, TupleWithin};
+
+/// The place of a tuple in its box, and the tuple at a place.
+pub fn places_and_tuples()
+    ensures place { PlaceOfTuple }
+    ensures tuple { TupleOfPlace }
+    ensures place_within { PlaceWithin }
+    ensures tuple_within { TupleWithin }
+{}
+
+/// All tuples of a box.
+pub fn tuples_in_order()
+    ensures order { TuplesInOrder }
+    ensures count { TuplesCounted }
+{}
+
+/// The segment numbers of some indices, and their place in the box of those indices.
+pub fn ranks_and_numbers()
+    ensures rank { RankOfNumbers }
+    ensures numbers { NumbersOfRank }
+    ensures rank_within { RankWithin }
+    ensures numbers_within { NumbersWithin }
+{}
