@@ -26,6 +26,8 @@ mod segments;
 mod start;
 mod statements;
 mod status;
+#[cfg(test)]
+mod tests;
 mod top;
 mod words;
 
