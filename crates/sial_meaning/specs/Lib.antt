@@ -13,3 +13,4 @@ pub mod Accepted
 pub mod Costs
 pub mod Course
 pub mod Laws
+pub mod EpochLaws
