@@ -43,6 +43,7 @@ if_some : (b : Bool) (first : Found) (one : Option Found) → (clash : Found) ×
 if_some true first one h = (first, refl)
 if_some false first one h = h
 
+-- the first of two is a clash
 if_first : (b : Bool) (first : Found) (one : Option Found) → b ≡ true → (clash : Found) × ((if b then Some first else one) ≡ Some clash)
 if_first true first one e = (first, refl)
 if_first false first one e = absurd cc

@@ -60,6 +60,7 @@ fine_reads g line (b ∷ bs) s fine =
     (logged s (named g s.own b).class (named g s.own b).block Read line)
     (fine_logged s (named g s.own b).class (named g s.own b).block Read line fine)
 
+-- a test that passes
 true_of : (b : Bool) → T b → b ≡ true
 true_of true t = refl
 true_of false t = absurd t
@@ -74,6 +75,7 @@ and_first : (a b : Bool) → b ≡ true → (a && b) ≡ false → a ≡ false
 and_first true b e f = absurd cc
 and_first false b e f = refl
 
+-- numbers that are not the same
 apart : (b block : ℕ) → eqb b block ≡ false → b ≢ block
 apart b block f e = let t : eqb b block ≡ true = ap (λ n. eqb n block) e ∙ true_of (eqb block block) (eqb_refl block) in absurd cc
 

@@ -38,6 +38,7 @@ after_same : (p : Outcome) (h i : State → Outcome) → ((t : State) → AgreeF
 after_same (Went t) h i k fine = (k t).0 fine
 after_same (Stopped trap t) h i k fine = alike (Stopped trap t) tt
 
+-- what follows two outcomes that agree
 after_agree : (p c : Outcome) (h i : State → Outcome) → ((t : State) → AgreeFrom t (h t) (i t)) → Agree p c → Agree (after p h) (after c i)
 after_agree p c h i k (inl (same, fine)) = subst (λ (o : Outcome). Agree (after p h) (after o i)) same (after_same p h i k fine)
 after_agree p c h i k (inr parted) = inr (record {
@@ -62,6 +63,7 @@ from_chosen line (Ok true) met unmet met_copied unmet_copied s a b = a
 from_chosen line (Ok false) met unmet met_copied unmet_copied s a b = b
 from_chosen line (Err kind) met unmet met_copied unmet_copied s a b = (λ fine. alike (Stopped (trap_at line kind) s) tt, extends_same s.log, extends_same s.log)
 
+-- a body that may be left out
 from_unless : (met : Bool) (body copied : State → Outcome) (s : State) → AgreeFrom s (body s) (copied s) → AgreeFrom s (unless_left_out met body s) (unless_left_out met copied s)
 from_unless true body copied s a = a
 from_unless false body copied s a = from_here s
@@ -88,6 +90,7 @@ module _ (g : Setting) (present copied : ℕ → State → Outcome) (called : (p
         (form_agrees line form parts.0 s)
         (λ t. block_agrees rest parts.1 t)
 
+    -- each of them
     form_agrees : (line : ℕ) (form : Plain) → IsTrue (proper_form g.program form) → (s : State) → AgreeFrom s (form_meaning Present g present line form s) (form_meaning Copied g copied line form s)
     form_agrees line (Do index body) there s =
         let parts = both (has_index g.program index) (proper_body g.program body) there in
@@ -181,18 +184,21 @@ module _ (g : Setting) (proper : IsProper g.program) where
   meanings_agree =
       (block_agrees g (calls Present g call_depth) (calls Copied g call_depth) (calls_agree call_depth) g.program.body (body_proper g.program proper) (start_state g)).0 (fine_start g)
 
+-- outcomes that agree have one first refusal
 refusal_agrees : (p c : Outcome) → Agree p c → refusal_of c ≡ refusal_of p
 refusal_agrees p c (inl (same, fine)) = sym (ap refusal_of same)
 refusal_agrees p c (inr parted) =
     ap (λ o. refused o (trap_of c)) (clash_is [] parted.log (log_of c) parted.clash.0 parted.copied parted.clash.1)
     ∙ sym (ap (λ o. refused o (trap_of p)) (clash_is [] parted.log (log_of p) parted.clash.0 parted.present parted.clash.1))
 
+-- they have one log up to the first clash
 log_agrees : (p c : Outcome) → Agree p c → up_to_clash [] (log_of c) ≡ up_to_clash [] (log_of p)
 log_agrees p c (inl (same, fine)) = sym (ap (λ o. up_to_clash [] (log_of o)) same)
 log_agrees p c (inr parted) =
     up_to_clash_on parted.log (log_of c) parted.clash.0 parted.clash.1 parted.copied
     ∙ sym (up_to_clash_on parted.log (log_of p) parted.clash.0 parted.clash.1 parted.present)
 
+-- they are one where no access clashes
 outcome_agrees : (p c : Outcome) → Agree p c → first_clash [] (log_of p) ≡ None → c ≡ p
 outcome_agrees p c (inl (same, fine)) e = sym same
 outcome_agrees p c (inr parted) e =

@@ -58,6 +58,7 @@ values_agree g line (b ∷ bs) s fine =
     t : State
     t = logged s (named g s.own b).class (named g s.own b).block Read line
 
+    -- by whether a read of the first operand clashes
     by_test : (test : Bool) → list_any (clashes (read_now s (named g s.own b).class (named g s.own b).block)) s.log ≡ test → (values_of g Present s bs ≡ values_of g Copied s bs) ⊎ Clashes [] (reads_logged g line bs t).log → (values_of g Present s (b ∷ bs) ≡ values_of g Copied s (b ∷ bs)) ⊎ Clashes [] (reads_logged g line bs t).log
     by_test test e (inr clash) = inr clash
     by_test false e (inl same) =
@@ -82,6 +83,7 @@ local_log : (line : ℕ) (s : State) (answer : Answer Done) → log_of (local_do
 local_log line s (Ok done) = refl
 local_log line s (Err kind) = refl
 
+-- a local statement leaves the shared blocks
 local_fine : (line : ℕ) (s : State) (answer : Answer Done) → Fine s → FineTo (local_done line s answer)
 local_fine line s (Ok done) fine = fine
 local_fine line s (Err kind) fine = tt
@@ -94,6 +96,7 @@ extends_is log more e = ([], e ∙ sym (append-nil log))
 pub alike : (o : Outcome) → FineTo o → Agree o o
 alike o fine = inl (refl, fine)
 
+-- a local statement, given what its operands are
 local_agrees : (line : ℕ) (s : State) (f : List (List ℕ) → Answer Done) (present copied : List (List ℕ)) → Fine s → (present ≡ copied) ⊎ Clashes [] s.log → Agree (local_done line s (f present)) (local_done line s (f copied))
 local_agrees line s f present copied fine (inl same) = inl (ap (λ values. local_done line s (f values)) same, local_fine line s (f present) fine)
 local_agrees line s f present copied fine (inr clash) = inr (record {
@@ -103,10 +106,12 @@ local_agrees line s f present copied fine (inr clash) = inr (record {
   copied = extends_is s.log (log_of (local_done line s (f copied))) (local_log line s (f copied));
 })
 
+-- a write to a shared block
 put_fine : (line : ℕ) (place : Named) (how : Access) (s : State) (answer : Answer (List ℕ)) → IsTrue (is_write how) → Fine s → FineTo (put_done line place how s answer)
 put_fine line place how s (Ok words) writes fine = fine_stored line place how words s writes fine
 put_fine line place how s (Err kind) writes fine = tt
 
+-- the effect of a statement
 effect_agrees : (g : Setting) (line : ℕ) (form : Plain) (s : State) → Writes form → Fine s → Agree (effect Present g line form s) (effect Copied g line form s)
 effect_agrees g line (Get block) s writes fine = alike (Went (reads_logged g line (block ∷ []) s)) (fine_reads g line (block ∷ []) s fine)
 effect_agrees g line (Request block) s writes fine = alike (Went (reads_logged g line (block ∷ []) s)) (fine_reads g line (block ∷ []) s fine)
@@ -129,6 +134,7 @@ effect_agrees g line form s writes fine =
     (fine_reads g line (reads_of g form) s fine)
     (values_agree g line (reads_of g form) s fine)
 
+-- a statement, unless its created flags trap
 trapped_agrees : (line : ℕ) (s : State) (trap : Option TrapKind) (f h : State → Outcome) → Agree (f s) (h s) → Agree (unless_trapped line s trap f) (unless_trapped line s trap h)
 trapped_agrees line s None f h agree = agree
 trapped_agrees line s (Some kind) f h agree = alike (Stopped (trap_at line kind) s) tt
@@ -138,10 +144,12 @@ pub statement_agrees : (g : Setting) (line : ℕ) (form : Plain) (s : State) →
 statement_agrees g line form s writes fine =
     trapped_agrees line s (created_trap g form s.own) (effect Present g line form) (effect Copied g line form) (effect_agrees g line form s writes fine)
 
+-- a write logs behind what was logged
 put_extends : (line : ℕ) (place : Named) (how : Access) (s : State) (answer : Answer (List ℕ)) → Extends s.log (log_of (put_done line place how s answer))
 put_extends line place how s (Ok words) = (record { class = place.class; epoch = epoch_of s.epochs place.class; block = place.block; kind = how; line = line } ∷ [], refl)
 put_extends line place how s (Err kind) = extends_same s.log
 
+-- so does the effect of a statement
 effect_extends : (reading : Reading) (g : Setting) (line : ℕ) (form : Plain) (s : State) → Extends s.log (log_of (effect reading g line form s))
 effect_extends reading g line (Get block) s = reads_extend g line (block ∷ []) s
 effect_extends reading g line (Request block) s = reads_extend g line (block ∷ []) s
@@ -157,6 +165,7 @@ effect_extends reading g line form s =
     let answer : Answer Done = local_step g form (values_of g reading s (reads_of g form)) s.own s.partials in
     extends_then s.log t.log (log_of (local_done line t answer)) (reads_extend g line (reads_of g form) s) (extends_is t.log (log_of (local_done line t answer)) (local_log line t answer))
 
+-- so does a statement, unless its created flags trap
 trapped_extends : (log : List Touch) (line : ℕ) (s : State) (trap : Option TrapKind) (f : State → Outcome) → Extends log s.log → Extends log (log_of (f s)) → Extends log (log_of (unless_trapped line s trap f))
 trapped_extends log line s None f x y = y
 trapped_extends log line s (Some kind) f x y = x

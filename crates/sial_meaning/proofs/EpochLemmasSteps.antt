@@ -66,43 +66,52 @@ pushed p at (Then line form more) rest there proper =
 same_at : (program : Tree) (t : Stepped) → FineAt program t → AgreeAt program t t
 same_at program t fine = inl (refl, fine)
 
+-- a loop entered leaves a fine state
 entered_fine : (p : Tree) (at head index first count : ℕ) (body : Block) (rest : Rest) (s : State) → IsTrue (proper_body p body) → ProperRest p rest → Fine s → FineAt p (entered at head index first count body rest s)
 entered_fine p at head index first zero body rest s there proper fine = (proper, fine)
 entered_fine p at head index first (suc n) body rest s there proper fine = (pushed p (head + 1) body (Turn at head index (first + n) body rest) there (there, proper), fine)
 
+-- so does the end of a loop's body
 turned_fine : (p : Tree) (more : Bool) (at head index last : ℕ) (body : Block) (rest : Rest) (s : State) → IsTrue (proper_body p body) → ProperRest p rest → Fine s → FineAt p (turned more at head index last body rest s)
 turned_fine p true at head index last body rest s there proper fine = (pushed p (head + 1) body (Turn at head index last body rest) there (there, proper), fine)
 turned_fine p false at head index last body rest s there proper fine = (proper, fine)
 
+-- so does a branch
 branched_fine : (p : Tree) (line : ℕ) (answer : Answer Bool) (met unmet : Rest) (s : State) → ProperRest p met → ProperRest p unmet → Fine s → FineAt p (branched line answer met unmet s)
 branched_fine p line (Ok true) met unmet s a b fine = (a, fine)
 branched_fine p line (Ok false) met unmet s a b fine = (b, fine)
 branched_fine p line (Err kind) met unmet s a b fine = tt
 
+-- so does a call
 called_fine : (g : Setting) (more : Bool) (procedure : ℕ) (rest : Rest) (s : State) → IsTrue (proper_body g.program (procedure_body g procedure)) → ProperRest g.program rest → Fine s → FineAt g.program (called g more procedure rest s)
 called_fine g true procedure rest s there proper fine =
     (pushed g.program (entry_of g.program procedure) (procedure_body g procedure) (Back (entry_of g.program procedure + sizes (procedure_body g procedure)) s.own.values rest) there proper, fine)
 called_fine g false procedure rest s there proper fine = (proper, fine)
 
+-- so does a tuple taken up
 begun_fine : (p : Tree) (met : Bool) (at head : ℕ) (indices : List ℕ) (wheres : List Cond) (body : Block) (number : ℕ) (rest : Rest) (s : State) → IsTrue (proper_body p body) → ProperRest p rest → Fine s → FineAt p (begun met at head indices wheres body number rest s)
 begun_fine p true at head indices wheres body number rest s there proper fine =
     (pushed p (head + 1 + length wheres) body (Within at head indices wheres body (number + 1) rest) there (there, proper), fine)
 begun_fine p false at head indices wheres body number rest s there proper fine = ((there, proper), fine)
 
+-- so does a pardo in progress
 within_fine : (g : Setting) (more : Bool) (at head : ℕ) (indices : List ℕ) (wheres : List Cond) (body : Block) (number : ℕ) (rest : Rest) (s : State) → IsTrue (proper_body g.program body) → ProperRest g.program rest → Fine s → FineAt g.program (went_within g more at head indices wheres body number rest s)
 within_fine g true at head indices wheres body number rest s there proper fine =
     let t : State = on_own (taken_up g indices (tuple_at (box_of g.spaces indices) number)) s in
     begun_fine g.program (all_met t.own wheres) at head indices wheres body number rest t there proper fine
 within_fine g false at head indices wheres body number rest s there proper fine = (proper, fine)
 
+-- so does a statement that holds no other
 done_fine : (p : Tree) (o : Outcome) (rest : Rest) → ProperRest p rest → FineTo o → FineAt p (done o rest)
 done_fine p (Went s) rest proper fine = (proper, fine)
 done_fine p (Stopped trap s) rest proper fine = tt
 
+-- a statement that holds no other logs behind what was logged
 done_extends : (log : List Touch) (o : Outcome) (rest : Rest) → Extends log (log_of o) → ExtendsAt log (done o rest)
 done_extends log (Went s) rest x = x
 done_extends log (Stopped trap s) rest x = x
 
+-- a statement that holds no other in both readings
 done_agrees : (p : Tree) (present copied : Outcome) (rest : Rest) → ProperRest p rest → Agree present copied → AgreeAt p (done present rest) (done copied rest)
 done_agrees p present copied rest proper (inl (same, fine)) = inl (ap (λ o. done o rest) same, done_fine p present rest proper fine)
 done_agrees p present copied rest proper (inr parted) = inr (record {
@@ -162,32 +171,39 @@ module _ (g : Setting) (proper : IsProper g.program) where
       inl (refl, within_fine g (nat_lt number (volume (box_of g.spaces indices))) at head indices wheres body number rest s there.0 there.1 fine)
 
 module _ (reading : Reading) (g : Setting) where
+  -- a loop entered logs nothing
   entered_extends : (at head index first count : ℕ) (body : Block) (rest : Rest) (s : State) → ExtendsAt s.log (entered at head index first count body rest s)
   entered_extends at head index first zero body rest s = extends_same s.log
   entered_extends at head index first (suc n) body rest s = extends_same s.log
 
+  -- nor does the end of a loop's body
   turned_extends : (more : Bool) (at head index last : ℕ) (body : Block) (rest : Rest) (s : State) → ExtendsAt s.log (turned more at head index last body rest s)
   turned_extends true at head index last body rest s = extends_same s.log
   turned_extends false at head index last body rest s = extends_same s.log
 
+  -- nor does a branch
   branched_extends : (line : ℕ) (answer : Answer Bool) (met unmet : Rest) (s : State) → ExtendsAt s.log (branched line answer met unmet s)
   branched_extends line (Ok true) met unmet s = extends_same s.log
   branched_extends line (Ok false) met unmet s = extends_same s.log
   branched_extends line (Err kind) met unmet s = extends_same s.log
 
+  -- nor does a call
   called_extends : (more : Bool) (procedure : ℕ) (rest : Rest) (s : State) → ExtendsAt s.log (called g more procedure rest s)
   called_extends true procedure rest s = extends_same s.log
   called_extends false procedure rest s = extends_same s.log
 
+  -- nor does a tuple taken up
   begun_extends : (met : Bool) (at head : ℕ) (indices : List ℕ) (wheres : List Cond) (body : Block) (number : ℕ) (rest : Rest) (s : State) → ExtendsAt s.log (begun met at head indices wheres body number rest s)
   begun_extends true at head indices wheres body number rest s = extends_same s.log
   begun_extends false at head indices wheres body number rest s = extends_same s.log
 
+  -- nor does a pardo in progress
   within_extends : (more : Bool) (at head : ℕ) (indices : List ℕ) (wheres : List Cond) (body : Block) (number : ℕ) (rest : Rest) (s : State) → ExtendsAt s.log (went_within g more at head indices wheres body number rest s)
   within_extends true at head indices wheres body number rest s =
       let t : State = on_own (taken_up g indices (tuple_at (box_of g.spaces indices) number)) s in begun_extends (all_met t.own wheres) at head indices wheres body number rest t
   within_extends false at head indices wheres body number rest s = extends_same s.log
 
+  -- a statement at the head logs behind what was logged
   next_extends : (at line : ℕ) (form : Plain) (rest : Rest) (s : State) → ExtendsAt s.log (next_step reading g at line form rest s)
   next_extends at line (Do index body) rest s = entered_extends (at + 1 + sizes body) at index (first_of g.spaces index) (count_of g.spaces index) body rest s
   next_extends at line (DoIn sub index body) rest s = entered_extends (at + 1 + sizes body) at sub 1 (pieces_of g.spaces sub (value_of s.own index)) body rest s
@@ -207,6 +223,7 @@ module _ (reading : Reading) (g : Setting) where
   step_extends (Back at values rest) s = extends_same s.log
   step_extends (Within at head indices wheres body number rest) s = within_extends (nat_lt number (volume (box_of g.spaces indices))) at head indices wheres body number rest s
 
+  -- what is logged behind a log that goes on
   at_then : (a b : List Touch) (t : Stepped) → Extends a b → ExtendsAt b t → ExtendsAt a t
   at_then a b (Moved w) x y = extends_then a b w.state.log x y
   at_then a b (Halted trap s) x y = extends_then a b s.log x y
@@ -243,6 +260,7 @@ unclashed log (Moved w) clash x e = let met : first_clash [] w.state.log ≡ Som
 unclashed log (Halted trap s) clash x e = let met : first_clash [] s.log ≡ Some clash.0 = clash_is [] log s.log clash.0 x clash.1 in absurd cc
 unclashed log Ended clash x e = e
 
+-- places that agree are one place where no access has clashed
 one_place : (program : Tree) (p c t : Stepped) → AgreeAt program p c → IsUnclashed t → (p ≡ t) ↔ (c ≡ t)
 one_place program p c t (inl (same, fine)) clear = (λ e. sym same ∙ e, λ e. same ∙ e)
 one_place program p c t (inr parted) clear = (

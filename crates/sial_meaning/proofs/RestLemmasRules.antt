@@ -37,10 +37,12 @@ append_none : {X : Type 0} (xs ys : List X) → xs ++ ys ≡ [] → (xs ≡ []) 
 append_none [] ys e = (refl, e)
 append_none (x ∷ xs) ys e = absurd cc
 
+-- no list is empty whose image has entries
 map_none : {X Y : Type 0} (f : X → Y) (xs : List X) → map f xs ≡ [] → xs ≡ []
 map_none f [] e = refl
 map_none f (x ∷ xs) e = absurd cc
 
+-- an entry that is left out
 kept_none : {X : Type 0} (b : Bool) (x : X) (xs : List X) → cond b (x ∷ xs) xs ≡ [] → (b ≡ false) × (xs ≡ [])
 kept_none true x xs e = absurd cc
 kept_none false x xs e = (refl, e)
