@@ -4,7 +4,9 @@
 pub mod acceptance;
 mod clash;
 pub mod programs;
+mod standing;
 mod trap;
 
 pub use clash::Clash;
+pub use standing::stand_together;
 pub use trap::{Trap, TrapKind};
