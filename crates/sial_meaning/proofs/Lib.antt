@@ -10,3 +10,12 @@ pub mod RestLemmasFold
 pub mod RestLemmasKept
 pub mod RestLemmasRules
 pub mod RestLemmasTurns
+pub mod WorkedFirstRuns
+pub mod WorkedSmallRuns
+pub mod WorkedClashesRuns
+pub mod WorkedOrdersRuns
+pub mod WorkedPardosRuns
+pub mod WorkedServedRuns
+pub mod WorkedRulesAre
+pub mod PairLemmas
+pub mod RefusalLemmas

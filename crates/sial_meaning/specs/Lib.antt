@@ -14,3 +14,12 @@ pub mod Costs
 pub mod Course
 pub mod Laws
 pub mod EpochLaws
+pub mod Runs
+pub mod WorkedFirst
+pub mod WorkedSmall
+pub mod WorkedClashes
+pub mod WorkedOrders
+pub mod WorkedPardos
+pub mod WorkedServed
+pub mod WorkedRules
+pub mod AcceptedLaws

@@ -1,9 +1,13 @@
 //! What a SIAL program means when one worker runs it alone, and which programs every schedule agrees on.
 #![tactic(auto)]
 
+pub mod acceptance;
 mod clash;
 pub mod laws;
+pub mod programs;
+mod standing;
 mod trap;
 
 pub use clash::Clash;
+pub use standing::stand_together;
 pub use trap::{Trap, TrapKind};

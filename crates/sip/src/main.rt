@@ -1,7 +1,10 @@
 //! The program: the host's files and streams, handed to the top call.
 #![tactic(auto)]
 
-use sip_driver::{sip, Status};
+#[cfg(test)]
+mod tests;
+
+use sip_driver::{Status, sip};
 use sip_files::{HostFiles, HostSink, Sink, Stream};
 use std::env;
 use std::io::{self, ErrorKind};

@@ -30,8 +30,8 @@ one index extent words = record { at = index ∷ []; extents = extent ∷ []; wo
 pub position-one : (spaces : Spaces) (index p : ℕ) → position spaces ((index, p) ∷ []) index ≡ p
 position-one spaces index p =
     ap
-      (λ b. itself_or (cond b (Some (index, p)) None) (find (λ (q : ℕ × ℕ). cuts spaces q.0 index || cuts spaces index q.0) ((index, p) ∷ [])))
-      (same-self index)
+    (λ b. itself_or (cond b (Some (index, p)) None) (find (λ (q : ℕ × ℕ). cuts spaces q.0 index || cuts spaces index q.0) ((index, p) ∷ [])))
+    (same-self index)
 
 -- the element of a block with one index at a position of that index
 pub element-one : (spaces : Spaces) (index : ℕ) (e : Extent) (words : List ℕ) (k : ℕ) → k < e.len → element spaces ((index, e.start + k) ∷ []) (one index e words) ≡ Some (slice_index_or words k 0)
@@ -39,7 +39,7 @@ element-one spaces index e words k within =
     let at : ((e.start + k) - e.start) * 1 + 0 ≡ k = omega arith in
     ap (λ p. cond (lies_on e p && true) (Some (slice_index_or words ((p - e.start) * 1 + 0) 0)) None) (position-one spaces index (e.start + k))
     ∙ (ap (λ b. cond (b && true) (Some (slice_index_or words (((e.start + k) - e.start) * 1 + 0) 0)) None) (lies-within e k within)
-      ∙ ap (λ n. Some (slice_index_or words n 0)) at)
+    ∙ ap (λ n. Some (slice_index_or words n 0)) at)
 
 -- f of the places of one list and those of another, paired
 pub map-paired : (f : ℕ → ℕ → ℕ) (xs ys : List ℕ) → length xs ≡ length ys → map (λ (k : ℕ). f (slice_index_or xs k 0) (slice_index_or ys k 0)) (numbers_from 0 (length xs)) ≡ paired f xs ys
@@ -48,28 +48,28 @@ map-paired f (x ∷ xs) [] same = absurd (omega (arith, same))
 map-paired f (x ∷ xs) (y ∷ ys) same =
     let rest : length xs ≡ length ys = omega (arith, same) in
     ap
-      (λ zs. f x y ∷ zs)
-      (ap (map (λ (k : ℕ). f (slice_index_or (x ∷ xs) k 0) (slice_index_or (y ∷ ys) k 0))) (sym (numbers-step 0 (length xs)))
-        ∙ (map-map (λ (k : ℕ). f (slice_index_or (x ∷ xs) k 0) (slice_index_or (y ∷ ys) k 0)) (λ (k : ℕ). k + 1) (numbers_from 0 (length xs))
-          ∙ (map-from
-              (λ (k : ℕ). f (slice_index_or (x ∷ xs) (k + 1) 0) (slice_index_or (y ∷ ys) (k + 1) 0))
-              (λ (k : ℕ). f (slice_index_or xs k 0) (slice_index_or ys k 0))
-              0
-              (length xs)
-              (λ k from below. ap (λ j. f (slice_index_or (x ∷ xs) j 0) (slice_index_or (y ∷ ys) j 0)) (add-one k))
-            ∙ map-paired f xs ys rest)))
+    (λ zs. f x y ∷ zs)
+    (ap (map (λ (k : ℕ). f (slice_index_or (x ∷ xs) k 0) (slice_index_or (y ∷ ys) k 0))) (sym (numbers-step 0 (length xs)))
+    ∙ (map-map (λ (k : ℕ). f (slice_index_or (x ∷ xs) k 0) (slice_index_or (y ∷ ys) k 0)) (λ (k : ℕ). k + 1) (numbers_from 0 (length xs))
+    ∙ (map-from
+    (λ (k : ℕ). f (slice_index_or (x ∷ xs) (k + 1) 0) (slice_index_or (y ∷ ys) (k + 1) 0))
+    (λ (k : ℕ). f (slice_index_or xs k 0) (slice_index_or ys k 0))
+    0
+    (length xs)
+    (λ k from below. ap (λ j. f (slice_index_or (x ∷ xs) j 0) (slice_index_or (y ∷ ys) j 0)) (add-one k))
+    ∙ map-paired f xs ys rest)))
 
 -- an assignment to a block with one index, number by number
 pub assigned-one : (spaces : Spaces) (op : Op) (index : ℕ) (e : Extent) (words : List ℕ) (side : Side) → assigned spaces op (one index e words) side ≡ map (λ (k : ℕ). met op (slice_index_or words k 0) (side_at spaces ((index, e.start + k) ∷ []) side)) (numbers_from 0 e.len)
 assigned-one spaces op index e words side =
     ap (map (λ t. met op (word_at (one index e words) t) (side_at spaces (places_at ((index, e) ∷ []) t) side))) (tuples-one e.len)
     ∙ (map-tuples (λ t. met op (word_at (one index e words) t) (side_at spaces (places_at ((index, e) ∷ []) t) side)) (numbers_from 0 e.len)
-      ∙ map-from
-        (λ (k : ℕ). met op (slice_index_or words (place_of (e.len ∷ []) (k ∷ [])) 0) (side_at spaces ((index, e.start + k) ∷ []) side))
-        (λ (k : ℕ). met op (slice_index_or words k 0) (side_at spaces ((index, e.start + k) ∷ []) side))
-        0
-        e.len
-        (λ k from below. ap (λ n. met op (slice_index_or words n 0) (side_at spaces ((index, e.start + k) ∷ []) side)) (place-one e.len k)))
+    ∙ map-from
+    (λ (k : ℕ). met op (slice_index_or words (place_of (e.len ∷ []) (k ∷ [])) 0) (side_at spaces ((index, e.start + k) ∷ []) side))
+    (λ (k : ℕ). met op (slice_index_or words k 0) (side_at spaces ((index, e.start + k) ∷ []) side))
+    0
+    e.len
+    (λ k from below. ap (λ n. met op (slice_index_or words n 0) (side_at spaces ((index, e.start + k) ∷ []) side)) (place-one e.len k)))
 
 -- a number set in each place
 pub filled-one : (spaces : Spaces) (index : ℕ) (e : Extent) (words : List ℕ) (n : ℕ) → assigned spaces Set (one index e words) (Alone (Plain n)) ≡ replicate e.len n
@@ -80,13 +80,13 @@ pub added-one : (spaces : Spaces) (index : ℕ) (e : Extent) (words other : List
 added-one spaces index e words other words_len other_len =
     assigned-one spaces Add index e words (Alone (Shown (one index e other)))
     ∙ (map-from
-        (λ (k : ℕ). met Add (slice_index_or words k 0) (element spaces ((index, e.start + k) ∷ []) (one index e other)))
-        (λ (k : ℕ). plus (slice_index_or words k 0) (slice_index_or other k 0))
-        0
-        e.len
-        (λ k from below. ap (met Add (slice_index_or words k 0)) (element-one spaces index e other k (omega (arith, below))))
-      ∙ (ap (λ n. map (λ (k : ℕ). plus (slice_index_or words k 0) (slice_index_or other k 0)) (numbers_from 0 n)) (sym words_len)
-        ∙ map-paired plus words other (words_len ∙ sym other_len)))
+    (λ (k : ℕ). met Add (slice_index_or words k 0) (element spaces ((index, e.start + k) ∷ []) (one index e other)))
+    (λ (k : ℕ). plus (slice_index_or words k 0) (slice_index_or other k 0))
+    0
+    e.len
+    (λ k from below. ap (met Add (slice_index_or words k 0)) (element-one spaces index e other k (omega (arith, below))))
+    ∙ (ap (λ n. map (λ (k : ℕ). plus (slice_index_or words k 0) (slice_index_or other k 0)) (numbers_from 0 n)) (sym words_len)
+    ∙ map-paired plus words other (words_len ∙ sym other_len)))
 
 -- a sum of what each gives is the sum of what all give
 pub fold-map : {X : Type 0} (f : X → ℕ) (a : ℕ) (xs : List X) → fold (λ b x. b + f x) a xs ≡ fold ◌+◌ a (map f xs)
@@ -105,19 +105,19 @@ product-one spaces index e words other words_len other_len =
     let term : List (ℕ × Extent) → List ℕ → ℕ = λ dims t. unwrap_or (both (λ x y. x * y) (element spaces ([] ++ places_at dims t) a) (element spaces ([] ++ places_at dims t) b)) 0 in
     ap (λ dims. sum_by (term dims) (tuples (dim_lengths dims)) % 2 ^ 64) (shared-one index e words other)
     ∙ ap
-      (λ n. n % 2 ^ 64)
-      (fold-map (term ((index, e) ∷ [])) 0 (tuples (e.len ∷ []))
-        ∙ ap
-          sum
-          (ap (map (term ((index, e) ∷ []))) (tuples-one e.len)
-            ∙ (map-tuples (term ((index, e) ∷ [])) (numbers_from 0 e.len)
-              ∙ (map-from
-                  (λ (k : ℕ). term ((index, e) ∷ []) (k ∷ []))
-                  (λ (k : ℕ). slice_index_or words k 0 * slice_index_or other k 0)
-                  0
-                  e.len
-                  (λ k from below.
-                    ap (λ x. unwrap_or (both (λ x y. x * y) x (element spaces ((index, e.start + k) ∷ []) b)) 0) (element-one spaces index e words k (omega (arith, below)))
-                    ∙ ap (λ y. unwrap_or (both (λ x y. x * y) (Some (slice_index_or words k 0)) y) 0) (element-one spaces index e other k (omega (arith, below))))
-                ∙ (ap (λ n. map (λ (k : ℕ). slice_index_or words k 0 * slice_index_or other k 0) (numbers_from 0 n)) (sym words_len)
-                  ∙ map-paired (λ x y. x * y) words other (words_len ∙ sym other_len))))))
+    (λ n. n % 2 ^ 64)
+    (fold-map (term ((index, e) ∷ [])) 0 (tuples (e.len ∷ []))
+    ∙ ap
+    sum
+    (ap (map (term ((index, e) ∷ []))) (tuples-one e.len)
+    ∙ (map-tuples (term ((index, e) ∷ [])) (numbers_from 0 e.len)
+    ∙ (map-from
+    (λ (k : ℕ). term ((index, e) ∷ []) (k ∷ []))
+    (λ (k : ℕ). slice_index_or words k 0 * slice_index_or other k 0)
+    0
+    e.len
+    (λ k from below.
+    ap (λ x. unwrap_or (both (λ x y. x * y) x (element spaces ((index, e.start + k) ∷ []) b)) 0) (element-one spaces index e words k (omega (arith, below)))
+    ∙ ap (λ y. unwrap_or (both (λ x y. x * y) (Some (slice_index_or words k 0)) y) 0) (element-one spaces index e other k (omega (arith, below))))
+    ∙ (ap (λ n. map (λ (k : ℕ). slice_index_or words k 0 * slice_index_or other k 0) (numbers_from 0 n)) (sym words_len)
+    ∙ map-paired (λ x y. x * y) words other (words_len ∙ sym other_len))))))

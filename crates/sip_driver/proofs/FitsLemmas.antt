@@ -44,8 +44,8 @@ fits_words path m block words same fits = record {
   scalars = fits.scalars;
   arrays = length-set m.statics block.array (slice_set (slice_index_or m.statics block.array []) (number_in path m block) words) ∙ fits.arrays;
   blocks = λ array within.
-    length_at m.statics block.array array (slice_set (slice_index_or m.statics block.array []) (number_in path m block) words) (length-set (slice_index_or m.statics block.array []) (number_in path m block) words)
-    ∙ fits.blocks array within;
+      length_at m.statics block.array array (slice_set (slice_index_or m.statics block.array []) (number_in path m block) words) (length-set (slice_index_or m.statics block.array []) (number_in path m block) words)
+      ∙ fits.blocks array within;
   words = λ array number within below. words_at m.statics block.array array (number_in path m block) number words same ∙ fits.words array number within below;
 }
 
@@ -97,9 +97,9 @@ number_below path m loop block is within =
     let here = within_at path m loop i is.looped.1 within in
     let core : (slice_index_or m.values i 0 - first_of (spaces_of path) i) < count_of (spaces_of path) i = omega (arith, here.from, here.below) in
     subst
-      (λ x. (slice_index_or m.values x 0 - first_of (spaces_of path) x) < count_of (spaces_of path) (index_of path block.array))
-      (sym (only-is path loop block is))
-      (subst (λ y. (slice_index_or m.values i 0 - first_of (spaces_of path) i) < count_of (spaces_of path) y) (sym (index_of-is path loop block is)) core)
+    (λ x. (slice_index_or m.values x 0 - first_of (spaces_of path) x) < count_of (spaces_of path) (index_of path block.array))
+    (sym (only-is path loop block is))
+    (subst (λ y. (slice_index_or m.values i 0 - first_of (spaces_of path) i) < count_of (spaces_of path) y) (sym (index_of-is path loop block is)) core)
 
 -- how many elements a block has in the loop over its index
 pub length-words : (path : Path) (m : Numbers) (loop : Option ℕ) (block : BlockRef) (index : ℕ) → loop ≡ Some index → Fits path m → IsWithin path m loop → IsBlock path.program loop block → length (words_of path m block) ≡ segment_len path index (slice_index_or m.values index 0 - first_of (spaces_of path) index)
@@ -107,7 +107,7 @@ length-words path m loop block index looped fits within is =
     let same : is.looped.0 ≡ index = some_is _ _ (sym is.looped.1 ∙ looped) in
     fits.words block.array (number_in path m block) is.array (number_below path m loop block is within)
     ∙ (ap (λ x. segment_len path x (number_in path m block)) (index_of-is path loop block is ∙ same)
-      ∙ ap (λ x. segment_len path index (slice_index_or m.values x 0 - first_of (spaces_of path) x)) (only-is path loop block is ∙ same))
+    ∙ ap (λ x. segment_len path index (slice_index_or m.values x 0 - first_of (spaces_of path) x)) (only-is path loop block is ∙ same))
   where
     some_is : (a b : ℕ) → Some a ≡ Some b → a ≡ b
     some_is a b e = cc
@@ -122,33 +122,33 @@ pub fits_through : (path : Path) (index first count : ℕ) (turn : ℕ → Numbe
 fits_through path index first zero turn keeps m fits = fits
 fits_through path index first (suc n) turn keeps m fits =
     fits_through
-      path
-      index
-      (first + 1)
-      n
-      turn
-      (λ k o from below. keeps k o (omega (arith, from)) (omega (arith, below)))
-      (turn first m)
-      (keeps first m (omega arith) (omega arith) fits)
+    path
+    index
+    (first + 1)
+    n
+    turn
+    (λ k o from below. keeps k o (omega (arith, from)) (omega (arith, below)))
+    (turn first m)
+    (keeps first m (omega arith) (omega arith) fits)
 
 mutual
   -- a statement keeps the shape
   pub fits_form : (path : Path) (loop : Option ℕ) (form : Plain) (m : Numbers) → IsForm path.program loop form → Fits path m → IsWithin path m loop → Fits path (ran_form path form m)
   fits_form path None (Do index body) m is fits within =
       fits_value
-        path
-        (through (segments_in path index) (λ k n. ran path body (with_value index k n)) m)
-        index
-        0
-        (fits_through
-          path
-          index
-          (first_of (spaces_of path) index)
-          (count_of (spaces_of path) index)
-          (λ k n. ran path body (with_value index k n))
-          (λ k n from below kept. fits_body path (Some index) body (with_value index k n) is.1 (fits_value path n index k kept) (at_segment path n index k is.0 kept from below))
-          m
-          fits)
+      path
+      (through (segments_in path index) (λ k n. ran path body (with_value index k n)) m)
+      index
+      0
+      (fits_through
+      path
+      index
+      (first_of (spaces_of path) index)
+      (count_of (spaces_of path) index)
+      (λ k n. ran path body (with_value index k n))
+      (λ k n from below kept. fits_body path (Some index) body (with_value index k n) is.1 (fits_value path n index k kept) (at_segment path n index k is.0 kept from below))
+      m
+      fits)
   fits_form path (Some outer) (Do index body) m is fits within = absurd is
   fits_form path loop (Assign (target.Block t) Set (One (operand.Number n))) m is fits within =
       fits_words path m t (replicate (length (words_of path m t)) n) (length-replicate (length (words_of path m t)) n) fits

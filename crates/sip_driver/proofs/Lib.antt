@@ -8,6 +8,7 @@ mod Printed
 mod RanLemmas
 mod Sequential
 mod StartLemmas
+mod StartLaws
 mod StatementsLemmas
 mod TopLemmas
 mod WroteLemmas

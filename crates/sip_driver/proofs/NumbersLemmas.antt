@@ -7,7 +7,7 @@ pub nested_set : {A B C : Type 0} (items : A → List B) (view : B → C) (outer
 nested_set items view outer i j old new block within is changed =
     map-set (λ a. map view (items a)) outer i new
     ∙ ap
-      (λ seen. slice_set (map (λ a. map view (items a)) outer) i seen)
-      (ap (map view) changed
-        ∙ (map-set view (items old) j block
-          ∙ ap (λ seen. slice_set seen j (view block)) (ap (λ a. map view (items a)) is ∙ sym (get_or-map (λ a. map view (items a)) outer i old [] within))))
+    (λ seen. slice_set (map (λ a. map view (items a)) outer) i seen)
+    (ap (map view) changed
+    ∙ (map-set view (items old) j block
+    ∙ ap (λ seen. slice_set seen j (view block)) (ap (λ a. map view (items a)) is ∙ sym (get_or-map (λ a. map view (items a)) outer i old [] within))))

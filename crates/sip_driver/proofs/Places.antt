@@ -44,11 +44,11 @@ pub map-read : {X Y : Type 0} (f : X → Y) (d : X) (xs : List X) → map (λ (k
 map-read f d [] = refl
 map-read f d (x ∷ xs) =
     ap
-      (λ rest. f x ∷ rest)
-      (ap (map (λ (k : ℕ). f (slice_index_or (x ∷ xs) k d))) (sym (numbers-step 0 (length xs)))
-        ∙ (map-map (λ (k : ℕ). f (slice_index_or (x ∷ xs) k d)) (λ (k : ℕ). k + 1) (numbers_from 0 (length xs))
-          ∙ (map-from (λ (k : ℕ). f (slice_index_or (x ∷ xs) (k + 1) d)) (λ (k : ℕ). f (slice_index_or xs k d)) 0 (length xs) (λ k from below. ap (λ j. f (slice_index_or (x ∷ xs) j d)) (add-one k))
-            ∙ map-read f d xs)))
+    (λ rest. f x ∷ rest)
+    (ap (map (λ (k : ℕ). f (slice_index_or (x ∷ xs) k d))) (sym (numbers-step 0 (length xs)))
+    ∙ (map-map (λ (k : ℕ). f (slice_index_or (x ∷ xs) k d)) (λ (k : ℕ). k + 1) (numbers_from 0 (length xs))
+    ∙ (map-from (λ (k : ℕ). f (slice_index_or (x ∷ xs) (k + 1) d)) (λ (k : ℕ). f (slice_index_or xs k d)) 0 (length xs) (λ k from below. ap (λ j. f (slice_index_or (x ∷ xs) j d)) (add-one k))
+    ∙ map-read f d xs)))
 
 -- a row of numbers begins at another
 pub numbers-shift : (first n : ℕ) → map (λ (k : ℕ). first + k) (numbers_from 0 n) ≡ numbers_from first n
@@ -56,8 +56,8 @@ numbers-shift first zero = refl
 numbers-shift first (suc n) =
     ap (λ k. k ∷ map (λ (k : ℕ). first + k) (numbers_from (0 + 1) n)) (add-zero first)
     ∙ ap
-      (λ rest. first ∷ rest)
-      (ap (map (λ (k : ℕ). first + k)) (sym (numbers-step 0 n))
-        ∙ (map-map (λ (k : ℕ). first + k) (λ (k : ℕ). k + 1) (numbers_from 0 n)
-          ∙ (map-from (λ (k : ℕ). first + (k + 1)) (λ (k : ℕ). (first + 1) + k) 0 n (λ k from below. omega arith)
-            ∙ numbers-shift (first + 1) n)))
+    (λ rest. first ∷ rest)
+    (ap (map (λ (k : ℕ). first + k)) (sym (numbers-step 0 n))
+    ∙ (map-map (λ (k : ℕ). first + k) (λ (k : ℕ). k + 1) (numbers_from 0 n)
+    ∙ (map-from (λ (k : ℕ). first + (k + 1)) (λ (k : ℕ). (first + 1) + k) 0 n (λ k from below. omega arith)
+    ∙ numbers-shift (first + 1) n)))

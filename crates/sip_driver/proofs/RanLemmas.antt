@@ -80,5 +80,5 @@ all_ran so = same_ran (ap text_of (sym (so.split ∙ append-nil so.done))) so.ra
 pub stopped_so_far : {old mid new : Option (List ℕ)} {before between now : ℕ} {was between_is is : Kept} {all : List (List ℕ)} {e : RunFault} (lines rest : List (List ℕ)) → RanSoFar old mid before between was between_is all (lines ++ rest) → Ran mid new between now between_is is (text_of lines) (Err e) → Ran old new before now was is (text_of all) (Err e)
 stopped_so_far {e = e} lines rest so second =
     same_ran
-      (ap (λ t. text_of so.done ++ t) (sym (text_of-append lines rest)) ∙ (sym (text_of-append so.done (lines ++ rest)) ∙ ap text_of (sym so.split)))
-      (then_ran (Err e) so.ran (stopped_ran (text_of rest) second))
+    (ap (λ t. text_of so.done ++ t) (sym (text_of-append lines rest)) ∙ (sym (text_of-append so.done (lines ++ rest)) ∙ ap text_of (sym so.split)))
+    (then_ran (Err e) so.ran (stopped_ran (text_of rest) second))

@@ -28,10 +28,10 @@ fits_start path = record {
   arrays = length-map path.program.arrays (zero_blocks path);
   blocks = λ array within. ap length (at_array array within) ∙ (length-map (segments_in path (index_of path array)) (λ k. replicate (among path.lengths k).len 0) ∙ length-numbers_from (first_of (spaces_of path) (index_of path array)) (count_of (spaces_of path) (index_of path array)));
   words = λ array number within below.
-    ap (λ (blocks : List (List ℕ)). length (slice_index_or blocks number [])) (at_array array within)
-    ∙ (ap length (get_or-map (λ (k : ℕ). replicate (among path.lengths k).len 0) (segments_in path (index_of path array)) number 0 [] (subst (λ n. number < n) (sym (length-numbers_from (first_of (spaces_of path) (index_of path array)) (count_of (spaces_of path) (index_of path array)))) below))
+      ap (λ (blocks : List (List ℕ)). length (slice_index_or blocks number [])) (at_array array within)
+      ∙ (ap length (get_or-map (λ (k : ℕ). replicate (among path.lengths k).len 0) (segments_in path (index_of path array)) number 0 [] (subst (λ n. number < n) (sym (length-numbers_from (first_of (spaces_of path) (index_of path array)) (count_of (spaces_of path) (index_of path array)))) below))
       ∙ (length-replicate (among path.lengths (slice_index_or (segments_in path (index_of path array)) number 0)).len 0
-        ∙ ap (λ k. (among path.lengths k).len) (get_or-numbers_from (first_of (spaces_of path) (index_of path array)) (count_of (spaces_of path) (index_of path array)) number 0 below)));
+      ∙ ap (λ k. (among path.lengths k).len) (get_or-numbers_from (first_of (spaces_of path) (index_of path array)) (count_of (spaces_of path) (index_of path array)) number 0 below)));
 }
   where
     at_array : (array : ℕ) → array < length path.program.arrays → slice_index_or (start_numbers path).statics array [] ≡ map (λ k. replicate (among path.lengths k).len 0) (segments_in path (index_of path array))

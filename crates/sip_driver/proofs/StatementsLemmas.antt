@@ -21,10 +21,10 @@ handed_on {old = old} {new = new} {before = before} {now = now} {was = was} {is 
 pub body_stopped : {old mid new : Option (List ℕ)} {before between now : ℕ} {was between_is is : Kept} {all : List (List ℕ)} {fault : RunFault} (path : Path) (m : Numbers) (body : Block) (line : ℕ) (form : Plain) (rest : Block) → body ≡ Then line form rest → RanSoFar old mid before between was between_is all (body_lines path body m) → Ran mid new between now between_is is (text_of (form_lines path form m)) (Err fault) → Ran old new before now was is (text_of all) (Err fault)
 body_stopped {old = old} {mid = mid} {before = before} {between = between} {was = was} {between_is = between_is} {all = all} path m body line form rest front so went =
     stopped_so_far
-      (form_lines path form m)
-      (body_lines path rest (ran_form path form m))
-      (subst (λ (b : Block). RanSoFar old mid before between was between_is all (body_lines path b m)) front so)
-      went
+    (form_lines path form m)
+    (body_lines path rest (ran_form path form m))
+    (subst (λ (b : Block). RanSoFar old mid before between was between_is all (body_lines path b m)) front so)
+    went
 
 -- what a body keeps from statement to statement: what is left of it gives the numbers that all of it gives
 pub record Left (path : Path) (loop : Option ℕ) (body : Block) (all m : Numbers) : Type 0 where
@@ -38,26 +38,26 @@ pub left_next : (path : Path) (loop : Option ℕ) (body : Block) (line : ℕ) (f
 left_next path loop body line form rest all m n front is left =
     let here = subst (λ (b : Block). Left path loop b all m) front left in
     subst
-      (λ (o : Numbers). Left path loop rest all o)
-      (sym is)
-      (record {
-        fits = fits_form path loop form m here.is.0 here.fits here.within;
-        within = within_form path loop form m here.is.0 here.within;
-        is = here.is.1;
-        same = here.same;
-      })
+    (λ (o : Numbers). Left path loop rest all o)
+    (sym is)
+    (record {
+      fits = fits_form path loop form m here.is.0 here.fits here.within;
+      within = within_form path loop form m here.is.0 here.within;
+      is = here.is.1;
+      same = here.same;
+    })
 
 -- the next statement's lines
 pub lines_next : {old mid new : Option (List ℕ)} {before between now : ℕ} {was between_is is : Kept} {all : List (List ℕ)} (path : Path) (m n : Numbers) (body : Block) (line : ℕ) (form : Plain) (rest : Block) → body ≡ Then line form rest → n ≡ ran_form path form m → RanSoFar old mid before between was between_is all (body_lines path body m) → Ran mid new between now between_is is (text_of (form_lines path form m)) (Ok tt) → RanSoFar old new before now was is all (body_lines path rest n)
 lines_next {old = old} {mid = mid} {new = new} {before = before} {between = between} {now = now} {was = was} {between_is = between_is} {is = is} {all = all} path m n body line form rest front same so went =
     subst
-      (λ (o : Numbers). RanSoFar old new before now was is all (body_lines path rest o))
-      (sym same)
-      (further
-        (form_lines path form m)
-        (body_lines path rest (ran_form path form m))
-        (subst (λ (b : Block). RanSoFar old mid before between was between_is all (body_lines path b m)) front so)
-        went)
+    (λ (o : Numbers). RanSoFar old new before now was is all (body_lines path rest o))
+    (sym same)
+    (further
+    (form_lines path form m)
+    (body_lines path rest (ran_form path form m))
+    (subst (λ (b : Block). RanSoFar old mid before between was between_is all (body_lines path b m)) front so)
+    went)
 
 -- one turn of a loop, and the turns behind it
 pub through_turn : (turn : ℕ → Numbers → Numbers) (first i n : ℕ) (m : Numbers) → i < n → through (numbers_from (first + i) (n - i)) turn m ≡ through (numbers_from (first + (i + 1)) (n - (i + 1))) turn (turn (first + i) m)

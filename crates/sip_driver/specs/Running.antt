@@ -104,7 +104,7 @@ zero_blocks path array = map (λ k. replicate (among path.lengths k).len 0) (seg
 -- the numbers as a run begins
 abbrev pub start_numbers : Path → Numbers
 start_numbers path = record {
-    values = replicate (length path.program.indices) 0;
-    scalars = replicate (length path.program.scalars) 0;
-    statics = map (zero_blocks path) path.program.arrays;
-  }
+  values = replicate (length path.program.indices) 0;
+  scalars = replicate (length path.program.scalars) 0;
+  statics = map (zero_blocks path) path.program.arrays;
+}

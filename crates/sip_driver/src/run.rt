@@ -24,5 +24,12 @@ pub fn run<K: Sink>(alloc: Global, first: &First, out: &mut K) -> Result<(), Run
     ensures kept { K.kept out.new ≡ K.kept out.old }
 {
     let mut machine = start(alloc, first)?;
-    run_body(alloc, first, None, first.program.body.as_slice(), &mut machine, out)
+    run_body(
+        alloc,
+        first,
+        None,
+        first.program.body.as_slice(),
+        &mut machine,
+        out,
+    )
 }

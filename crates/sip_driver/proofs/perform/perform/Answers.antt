@@ -1,4 +1,3 @@
-use Rattle.std.proofs.Common.{◌≡◌}
 use Rattle.sip_driver.proofs.TopLemmas.{loaded, kept_or}
 use Rattle.sip_driver.proofs.perform.perform.Goals as goal
 

@@ -1,4 +1,4 @@
-use Rattle.std.proofs.Common.{◌≡◌, ap, subst, sym}
+use Rattle.std.proofs.Common.{ap, subst, sym}
 use Rattle.sial_syntax.specs.Tree.{block}
 use Rattle.sip_driver.specs.First.{seen}
 use Rattle.sip_driver.specs.Ran.{Fits}

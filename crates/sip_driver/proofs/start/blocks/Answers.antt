@@ -1,4 +1,4 @@
-use Rattle.std.proofs.Common.{◌≡◌, ℕ, ◌+◌, ◌<◌, ◌++◌, [], ◌∷◌, map, replicate, ap, ◌∙◌, sym}
+use Rattle.std.proofs.Common.{ℕ, map, replicate}
 use Rattle.std.proofs.lemmas.List.{map_push}
 use Rattle.sial_syntax.specs.Spaces.{among}
 use Rattle.sip_driver.proofs.NumbersFrom.{one_more}

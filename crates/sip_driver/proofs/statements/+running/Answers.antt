@@ -1,4 +1,4 @@
-use Rattle.std.proofs.Common.{◌≡◌, ◌<◌, length, ℕ, ◌+◌, ◌-◌, List, [], ◌∷◌, ◌++◌, drop, ap, sym, ◌∙◌, subst, Some, arith}
+use Rattle.std.proofs.Common.{◌≡◌, ℕ, ◌+◌, ◌-◌, List, [], ap, sym, ◌∙◌, subst, Some, arith}
 use Rattle.std.proofs.lemmas.Result.{err_from_is_err_and}
 use Rattle.sial_syntax.specs.Tree.{Plain, block, plain_form}
 use Rattle.sial_syntax.proofs.TreeLemmas.{seen_rest, seen_print}
@@ -16,28 +16,27 @@ pub run_body-returns-in_err-run_form-clause-ran : goal.run_body-returns-in_err-r
 run_body-returns-in_err-run_form-clause-ran g t c =
     let front = seen_rest c.args.stmts.now c.loop-stmt.stmt-index c.stmt-item.result c.loop-stmt-test.true c.stmt-item.is in
     handed_on
-      c.in_err-run_form.field-0.0
-      c.from_residual.result
-      (err_from_is_err_and c.from_residual.result c.from_residual.ensures.1)
-      (body_stopped (seen c.args.first.now) c.loop-stmt.machine _ _ _ _ front c.loop-stmt.invariant.1 c.in_err-run_form.ensures.ran)
+    c.in_err-run_form.field-0.0
+    c.from_residual.result
+    (err_from_is_err_and c.from_residual.result c.from_residual.ensures.1)
+    (body_stopped (seen c.args.first.now) c.loop-stmt.machine _ _ _ _ front c.loop-stmt.invariant.1 c.in_err-run_form.ensures.ran)
 
 pub run_body-loop-stmt-preserved : goal.run_body-loop-stmt-preserved
 run_body-loop-stmt-preserved g t c =
-    let front = seen_rest c.args.stmts.now c.loop-stmt.stmt-index c.stmt-item.result c.loop-stmt-test.true c.stmt-item.is in
-    (
+    let front = seen_rest c.args.stmts.now c.loop-stmt.stmt-index c.stmt-item.result c.loop-stmt-test.true c.stmt-item.is in (
       left_next (seen c.args.first.now) c.args.within _ _ _ _ _ c.loop-stmt.machine c.run_form.new.machine front c.in_ok-run_form.ensures.numbers c.loop-stmt.invariant.0,
-      lines_next (seen c.args.first.now) c.loop-stmt.machine c.run_form.new.machine _ _ _ _ front c.in_ok-run_form.ensures.numbers c.loop-stmt.invariant.1 c.in_ok-run_form.ensures.ran
+      lines_next (seen c.args.first.now) c.loop-stmt.machine c.run_form.new.machine _ _ _ _ front c.in_ok-run_form.ensures.numbers c.loop-stmt.invariant.1 c.in_ok-run_form.ensures.ran,
     )
 
 pub run_form-returns-in_err-print_scalar-in-PrintScalar-clause-ran : goal.run_form-returns-in_err-print_scalar-in-PrintScalar-clause-ran
 run_form-returns-in_err-print_scalar-in-PrintScalar-clause-ran g t c =
     handed_on
-      NotWritten
-      c.from_residual-in_err-print_scalar-in-PrintScalar.result
-      (err_from_is_err_and c.from_residual-in_err-print_scalar-in-PrintScalar.result c.from_residual-in_err-print_scalar-in-PrintScalar.ensures.1)
-      (same_ran
-        (sym (ap (λ (f : Plain). text_of (form_lines (seen c.args.first.now) f c.args.machine.now)) (ap plain_form c.in-PrintScalar.is ∙ seen_print c.in-PrintScalar.scalar)))
-        (stopped_ran [] (failed_ran c.in_err-print_scalar-in-PrintScalar.field-0.0 c.in_err-print_scalar-in-PrintScalar.ensures)))
+    NotWritten
+    c.from_residual-in_err-print_scalar-in-PrintScalar.result
+    (err_from_is_err_and c.from_residual-in_err-print_scalar-in-PrintScalar.result c.from_residual-in_err-print_scalar-in-PrintScalar.ensures.1)
+    (same_ran
+    (sym (ap (λ (f : Plain). text_of (form_lines (seen c.args.first.now) f c.args.machine.now)) (ap plain_form c.in-PrintScalar.is ∙ seen_print c.in-PrintScalar.scalar)))
+    (stopped_ran [] (failed_ran c.in_err-print_scalar-in-PrintScalar.field-0.0 c.in_err-print_scalar-in-PrintScalar.ensures)))
 
 pub run_loop-returns-in_err-run_body-clause-ran : goal.run_loop-returns-in_err-run_body-clause-ran
 run_loop-returns-in_err-run_body-clause-ran g t c =
@@ -48,16 +47,16 @@ run_loop-returns-in_err-run_body-clause-ran g t c =
     let s = c.segments_of-segments.result in
     let m = c.loop-turn.machine in
     handed_on
-      c.in_err-run_body.field-0.0
-      c.from_residual.result
-      (err_from_is_err_and c.from_residual.result c.from_residual.ensures.1)
-      (same_ran
-        (ap (λ (ks : List ℕ). text_of (lines_through ks turn lines c.args.machine.now)) (segments_are path c.args.index s.first s.count c.segments_of-segments.ensures.first c.segments_of-segments.ensures.count))
-        (stopped_so_far
-          (lines (s.first + c.loop-turn.turn) m)
-          (lines_through (numbers_from (s.first + (c.loop-turn.turn + 1)) (s.count - (c.loop-turn.turn + 1))) turn lines (turn (s.first + c.loop-turn.turn) m))
-          (so_far_same (lines_turn turn lines s.first c.loop-turn.turn s.count m c.loop-turn-test.true) c.loop-turn.invariant.2)
-          (same_ran (ap (λ (n : Numbers). text_of (body_lines path body n)) c.set_value.ensures) c.in_err-run_body.ensures.ran)))
+    c.in_err-run_body.field-0.0
+    c.from_residual.result
+    (err_from_is_err_and c.from_residual.result c.from_residual.ensures.1)
+    (same_ran
+    (ap (λ (ks : List ℕ). text_of (lines_through ks turn lines c.args.machine.now)) (segments_are path c.args.index s.first s.count c.segments_of-segments.ensures.first c.segments_of-segments.ensures.count))
+    (stopped_so_far
+    (lines (s.first + c.loop-turn.turn) m)
+    (lines_through (numbers_from (s.first + (c.loop-turn.turn + 1)) (s.count - (c.loop-turn.turn + 1))) turn lines (turn (s.first + c.loop-turn.turn) m))
+    (so_far_same (lines_turn turn lines s.first c.loop-turn.turn s.count m c.loop-turn-test.true) c.loop-turn.invariant.2)
+    (same_ran (ap (λ (n : Numbers). text_of (body_lines path body n)) c.set_value.ensures) c.in_err-run_body.ensures.ran)))
 
 pub run_loop-loop-turn-preserved : goal.run_loop-loop-turn-preserved
 run_loop-loop-turn-preserved g t c =
@@ -68,12 +67,11 @@ run_loop-loop-turn-preserved g t c =
     let s = c.segments_of-segments.result in
     let m = c.loop-turn.machine in
     let k = s.first + c.loop-turn.turn in
-    let is : c.run_body.new.machine ≡ turn k m = c.in_ok-run_body.ensures.numbers ∙ ap (λ (n : Numbers). ran path body n) c.set_value.ensures in
-    (
+    let is : c.run_body.new.machine ≡ turn k m = c.in_ok-run_body.ensures.numbers ∙ ap (λ (n : Numbers). ran path body n) c.set_value.ensures in (
       subst
-        (λ (n : Numbers). Fits path n)
-        (sym is)
-        (fits_body
+          (λ (n : Numbers). Fits path n)
+          (sym is)
+          (fits_body
           path
           (Some c.args.index)
           body
@@ -82,12 +80,12 @@ run_loop-loop-turn-preserved g t c =
           (fits_value path m c.args.index k c.loop-turn.invariant.0)
           (at_segment path m c.args.index k c.requires.index c.loop-turn.invariant.0 (omega (arith, c.segments_of-segments.ensures.first)) (omega (arith, c.segments_of-segments.ensures.first, c.segments_of-segments.ensures.count, c.loop-turn-test.true)))),
       ap (λ (n : Numbers). through (numbers_from (s.first + (c.loop-turn.turn + 1)) (s.count - (c.loop-turn.turn + 1))) turn n) is
-        ∙ (sym (through_turn turn s.first c.loop-turn.turn s.count m c.loop-turn-test.true) ∙ c.loop-turn.invariant.1),
+          ∙ (sym (through_turn turn s.first c.loop-turn.turn s.count m c.loop-turn-test.true) ∙ c.loop-turn.invariant.1),
       so_far_same
-        (ap (λ (n : Numbers). lines_through (numbers_from (s.first + (c.loop-turn.turn + 1)) (s.count - (c.loop-turn.turn + 1))) turn lines n) (sym is))
-        (further
+          (ap (λ (n : Numbers). lines_through (numbers_from (s.first + (c.loop-turn.turn + 1)) (s.count - (c.loop-turn.turn + 1))) turn lines n) (sym is))
+          (further
           (lines k m)
           (lines_through (numbers_from (s.first + (c.loop-turn.turn + 1)) (s.count - (c.loop-turn.turn + 1))) turn lines (turn k m))
           (so_far_same (lines_turn turn lines s.first c.loop-turn.turn s.count m c.loop-turn-test.true) c.loop-turn.invariant.2)
-          (same_ran (ap (λ (n : Numbers). text_of (body_lines path body n)) c.set_value.ensures) c.in_ok-run_body.ensures.ran))
+          (same_ran (ap (λ (n : Numbers). text_of (body_lines path body n)) c.set_value.ensures) c.in_ok-run_body.ensures.ran)),
     )

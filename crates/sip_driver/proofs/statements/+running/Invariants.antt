@@ -1,10 +1,10 @@
-use Rattle.std.proofs.Common.{◌≡◌, ℕ, ◌+◌, ◌-◌, drop}
+use Rattle.std.proofs.Common.{◌≡◌, ◌+◌, ◌-◌, drop}
 use Rattle.sial_syntax.specs.Boxes.{numbers_from}
-use Rattle.sial_syntax.specs.Tree.{block, Do}
-use Rattle.sip_driver.specs.First.{seen, IsBody}
+use Rattle.sial_syntax.specs.Tree.{block}
+use Rattle.sip_driver.specs.First.{seen}
 use Rattle.sip_driver.specs.Ran.{RanSoFar, Fits}
 use Rattle.sip_driver.proofs.StatementsLemmas.{Left}
-use Rattle.sip_driver.specs.Running.{Numbers, ran, ran_form, body_lines, form_lines, through, lines_through, with_value}
+use Rattle.sip_driver.specs.Running.{ran, body_lines, through, lines_through, with_value}
 use Rattle.sip_driver.proofs.statements.+running.Given as goal
 
 -- the numbers fit, the statements that are left give what all give, and their lines are left
@@ -18,7 +18,7 @@ abbrev pub invariant-run_loop-loop-turn : goal.invariant-run_loop-loop-turn
 invariant-run_loop-loop-turn g l =
     Fits (seen l.first) l.machine
     × (through (numbers_from (l.segments.first + l.turn) (l.segments.count - l.turn)) (λ k n. ran (seen l.first) (block l.stmts) (with_value l.index k n)) l.machine
-        ≡ through (numbers_from l.segments.first l.segments.count) (λ k n. ran (seen l.first) (block l.stmts) (with_value l.index k n)) l.fn.machine)
+    ≡ through (numbers_from l.segments.first l.segments.count) (λ k n. ran (seen l.first) (block l.stmts) (with_value l.index k n)) l.fn.machine)
     × RanSoFar (g.K.Sink.written l.fn.out) (g.K.Sink.written l.out) (g.K.Sink.faults l.fn.out) (g.K.Sink.faults l.out) (g.K.Sink.kept l.fn.out) (g.K.Sink.kept l.out)
-        (lines_through (numbers_from l.segments.first l.segments.count) (λ k n. ran (seen l.first) (block l.stmts) (with_value l.index k n)) (λ k n. body_lines (seen l.first) (block l.stmts) (with_value l.index k n)) l.fn.machine)
-        (lines_through (numbers_from (l.segments.first + l.turn) (l.segments.count - l.turn)) (λ k n. ran (seen l.first) (block l.stmts) (with_value l.index k n)) (λ k n. body_lines (seen l.first) (block l.stmts) (with_value l.index k n)) l.machine)
+    (lines_through (numbers_from l.segments.first l.segments.count) (λ k n. ran (seen l.first) (block l.stmts) (with_value l.index k n)) (λ k n. body_lines (seen l.first) (block l.stmts) (with_value l.index k n)) l.fn.machine)
+    (lines_through (numbers_from (l.segments.first + l.turn) (l.segments.count - l.turn)) (λ k n. ran (seen l.first) (block l.stmts) (with_value l.index k n)) (λ k n. body_lines (seen l.first) (block l.stmts) (with_value l.index k n)) l.machine)

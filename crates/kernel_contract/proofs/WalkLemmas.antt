@@ -1,0 +1,183 @@
+-- One step of a walk.
+use Rattle.std.proofs.Common.{◌≡◌, ℕ, ◌+◌, ◌*◌, ◌%◌, ◌^◌, ◌<◌, ◌≤◌, zero, suc, refl, ap, sym, ◌∙◌, arith, List, [], ◌∷◌, length, get_or, set, drop, lit<, replicate, Bool, true, false, cond, nat_lt, ◌&&◌, get_or-set_other, ◌≢◌}
+use Rattle.std.proofs.lemmas.Bool.Decides.{nat_tests}
+use Rattle.std.proofs.Math.Nat.{mod-add-mod, mod-eq_of_lt}
+use Rattle.kernel_contract.specs.declared.axis.Axis.{Axis}
+use Rattle.kernel_contract.specs.Places.{IsPlace, offset, offset_a, offset_b, offset_to}
+use Rattle.std.specs.List.{list_all}
+use Rattle.kernel_contract.specs.Walks.{count, number, place_at, is_long, AreOffsets, IsRun}
+use Rattle.kernel_contract.specs.declared.run.Run.{Run}
+use Rattle.kernel_contract.proofs.Steps.{front_step}
+use Rattle.kernel_contract.specs.declared.walk.Offsets.{Offsets}
+use Rattle.kernel_contract.proofs.Numbers.{mod_cancel}
+use Rattle.kernel_contract.proofs.PlaceLemmas.{axis_at, offset-set, number-set, count-drop, IsPlace-at, number_below}
+
+-- the offset of the next number along an axis
+pub offset_forth : (stride : Axis → ℕ) (axes : List Axis) (place : List ℕ) (j old new : ℕ) → j < length axes → IsPlace axes place
+    → old ≡ offset stride axes place % 2 ^ 64 → new ≡ (old + 1 * stride (axis_at axes j)) % 2 ^ 64
+    → new ≡ offset stride axes (set place j (get_or place j 0 + 1)) % 2 ^ 64
+offset_forth stride axes place j old new low h o n =
+    let moved = offset-set stride axes place j (get_or place j 0 + 1) low h in
+    let shape : offset stride axes place + 1 * stride (axis_at axes j) ≡ offset stride axes (set place j (get_or place j 0 + 1)) = omega (arith, moved) in
+    n ∙ rw o (mod-add-mod (offset stride axes place) (2 ^ 64) (1 * stride (axis_at axes j)) ∙ ap (λ t. t % 2 ^ 64) shape)
+
+-- the offset of the first number along an axis
+pub offset_back : (stride : Axis → ℕ) (axes : List Axis) (place : List ℕ) (j old new : ℕ) → j < length axes → IsPlace axes place
+    → old ≡ offset stride axes place % 2 ^ 64 → (new + get_or place j 0 * stride (axis_at axes j)) % 2 ^ 64 ≡ old → new < 2 ^ 64
+    → new ≡ offset stride axes (set place j 0) % 2 ^ 64
+offset_back stride axes place j old new low h o n small =
+    let moved = offset-set stride axes place j 0 low h in
+    let digit : ℕ = get_or place j 0 * stride (axis_at axes j) in
+    let shape : offset stride axes place ≡ offset stride axes (set place j 0) + digit = omega (arith, moved) in
+    sym (mod-eq_of_lt small)
+    ∙ mod_cancel new (offset stride axes (set place j 0)) digit (2 ^ 64) (lit< tt) (n ∙ o ∙ ap (λ t. t % 2 ^ 64) shape)
+
+-- the offsets of the next place along an axis
+pub AreOffsets-forth : (axes : List Axis) (place : List ℕ) (j : ℕ) (old new : Offsets) → j < length axes → IsPlace axes place → AreOffsets axes place old
+    → new.a ≡ (old.a + 1 * (axis_at axes j).a) % 2 ^ 64
+    → new.b ≡ (old.b + 1 * (axis_at axes j).b) % 2 ^ 64
+    → new.to ≡ (old.to + 1 * (axis_at axes j).to) % 2 ^ 64
+    → AreOffsets axes (set place j (get_or place j 0 + 1)) new
+AreOffsets-forth axes place j old new low h o a b to = record {
+  a = offset_forth (λ x. x.a) axes place j old.a new.a low h o.a a;
+  b = offset_forth (λ x. x.b) axes place j old.b new.b low h o.b b;
+  to = offset_forth (λ x. x.to) axes place j old.to new.to low h o.to to;
+}
+
+-- the offsets of the first place along an axis
+pub AreOffsets-back : (axes : List Axis) (place : List ℕ) (j : ℕ) (old new : Offsets) → j < length axes → IsPlace axes place → AreOffsets axes place old
+    → (new.a + get_or place j 0 * (axis_at axes j).a) % 2 ^ 64 ≡ old.a → new.a < 2 ^ 64
+    → (new.b + get_or place j 0 * (axis_at axes j).b) % 2 ^ 64 ≡ old.b → new.b < 2 ^ 64
+    → (new.to + get_or place j 0 * (axis_at axes j).to) % 2 ^ 64 ≡ old.to → new.to < 2 ^ 64
+    → AreOffsets axes (set place j 0) new
+AreOffsets-back axes place j old new low h o a small_a b small_b to small_to = record {
+  a = offset_back (λ x. x.a) axes place j old.a new.a low h o.a a small_a;
+  b = offset_back (λ x. x.b) axes place j old.b new.b low h o.b b small_b;
+  to = offset_back (λ x. x.to) axes place j old.to new.to low h o.to to small_to;
+}
+
+-- with one more along the axis the number is the next
+pub number_forth : (axes : List Axis) (place : List ℕ) (i j first : ℕ) → i ≡ suc j → j < length axes → IsPlace axes place
+    → number axes place + count (drop i axes) ≡ first + 1 → number axes (set place j (get_or place j 0 + 1)) ≡ first + 1
+number_forth axes place i j first e low h owed =
+    let weight : number axes place + count (drop (suc j) axes) ≡ first + 1 = rw e at owed in
+    omega (arith, number-set axes place j (get_or place j 0 + 1) low h)
+
+-- from the last along the axis to the first, the weight of the axis before is owed
+pub number_back : (axes : List Axis) (place : List ℕ) (i j first : ℕ) → i ≡ suc j → j < length axes → IsPlace axes place
+    → (axis_at axes j).len ≤ get_or place j 0 + 1
+    → number axes place + count (drop i axes) ≡ first + 1 → number axes (set place j 0) + count (drop j axes) ≡ first + 1
+number_back axes place i j first e low h last owed =
+    let weight : number axes place + count (drop (suc j) axes) ≡ first + 1 = rw e at owed in
+    let digit : get_or place j 0 < (axis_at axes j).len = IsPlace-at axes place j low h in
+    let len : (axis_at axes j).len ≡ get_or place j 0 + 1 = omega arith in
+    rw (count-drop axes j low, len) (omega (arith, number-set axes place j 0 low h))
+
+count-drop-zero : (axes : List Axis) → count (drop 0 axes) ≡ count axes
+count-drop-zero [] = refl
+count-drop-zero (x ∷ xs) = refl
+
+-- past the last place all are gone
+pub number_end : (axes : List Axis) (place start : List ℕ) (i : ℕ) → i ≤ 0 → IsPlace axes start
+    → number axes place + count (drop i axes) ≡ number axes start + 1 → count axes ≡ number axes start + 1
+number_end axes place start i low h owed =
+    let none : i ≡ 0 = omega arith in
+    let all : number axes place + count (drop 0 axes) ≡ number axes start + 1 = rw none at owed in
+    omega (arith, number_below axes start h, count-drop-zero axes)
+
+-- what a conjunction that holds says
+pub both_true : (a b : Bool) → (a && b) ≡ true → (a ≡ true) × (b ≡ true)
+both_true true b e = (refl, e)
+both_true false b e = absurd cc
+
+long : (n : ℕ) → nat_lt 0 n ≡ true → 0 < n
+long n e = grind (arith, nat_tests)
+
+not_long : (n : ℕ) → nat_lt 0 n ≡ false → n ≡ 0
+not_long n e = grind (arith, nat_tests)
+
+-- where each axis has a number, zeros are a place
+pub IsPlace-zeros : (axes : List Axis) (n : ℕ) → n ≡ length axes → list_all is_long axes ≡ true → IsPlace axes (replicate n 0)
+IsPlace-zeros [] zero e all = tt
+IsPlace-zeros [] (suc n) e all = absurd (omega arith)
+IsPlace-zeros (x ∷ xs) zero e all = absurd (omega arith)
+IsPlace-zeros (x ∷ xs) (suc n) e all =
+    let both = both_true (is_long x) (list_all is_long xs) all in
+    (long x.len both.0, IsPlace-zeros xs n (omega arith) both.1)
+
+-- and their offset and their number are 0
+pub offset-zeros : (stride : Axis → ℕ) (axes : List Axis) (n : ℕ) → offset stride axes (replicate n 0) ≡ 0
+offset-zeros stride [] n = refl
+offset-zeros stride (x ∷ xs) zero = refl
+offset-zeros stride (x ∷ xs) (suc n) = omega (arith, offset-zeros stride xs n)
+
+number-zeros : (axes : List Axis) (n : ℕ) → number axes (replicate n 0) ≡ 0
+number-zeros [] n = refl
+number-zeros (x ∷ xs) zero = refl
+number-zeros (x ∷ xs) (suc n) = rw (number-zeros xs n) (omega arith)
+
+-- with an axis of length 0 there are none
+count-none : (axes : List Axis) → list_all is_long axes ≡ false → count axes ≡ 0
+count-none [] e = absurd cc
+count-none (x ∷ xs) e =
+    elim (is_long x) as (λ b. is_long x ≡ b → (b && list_all is_long xs) ≡ false → x.len * count xs ≡ 0) [
+      | true ↦ λ _ rest. rw (count-none xs rest) (omega arith)
+      | false ↦ λ short _. rw (not_long x.len short) (omega arith)
+    ] refl e
+
+-- a walk begins with none gone
+pub gone_none : (axes : List Axis) (n : ℕ) (left : Bool) → left ≡ list_all is_long axes → cond left (number axes (replicate n 0)) (count axes) ≡ 0
+gone_none axes n true e = number-zeros axes n
+gone_none axes n false e = count-none axes (sym e)
+
+-- not more are gone than there are
+pub gone-le : (axes : List Axis) (left : Bool) (place : List ℕ) → (left ≡ true → IsPlace axes place)
+    → cond left (number axes place) (count axes) ≤ count axes
+gone-le axes true place h = omega (arith, number_below axes place (h refl))
+gone-le axes false place h = omega arith
+
+-- an array that a number fills has it everywhere
+get_or-filled : (n v i : ℕ) → i < n → get_or (replicate n v) i 0 ≡ v
+get_or-filled zero v i low = absurd (omega arith)
+get_or-filled (suc n) v zero low = refl
+get_or-filled (suc n) v (suc i) low = get_or-filled n v i (omega arith)
+
+-- a run of one place
+pub IsRun-of : (axes : List Axis) (first : ℕ) (new : Run) (at : Offsets) → AreOffsets axes (place_at axes first) at
+    → new.len ≡ 1 → new.a ≡ replicate 4 at.a → new.b ≡ replicate 4 at.b → new.to ≡ replicate 4 at.to → IsRun axes first new
+IsRun-of axes first new at here len a b to = record {
+  some = omega arith;
+  len = omega arith;
+  a = λ i low. let none : first + i ≡ first = omega arith in rw (a, none) (get_or-filled 4 at.a i (omega arith) ∙ here.a);
+  b = λ i low. let none : first + i ≡ first = omega arith in rw (b, none) (get_or-filled 4 at.b i (omega arith) ∙ here.b);
+  to = λ i low. let none : first + i ≡ first = omega arith in rw (to, none) (get_or-filled 4 at.to i (omega arith) ∙ here.to);
+  filled = record {
+    a = λ i _ low. rw a (get_or-filled 4 at.a i low);
+    b = λ i _ low. rw b (get_or-filled 4 at.b i low);
+  };
+}
+
+-- a write behind the first keeps the rest as it was filled
+filled-set : (xs : List ℕ) (n v : ℕ) → 0 < n → ((i : ℕ) → n ≤ i → i < 4 → get_or xs i 0 ≡ get_or xs 0 0)
+    → (i : ℕ) → n + 1 ≤ i → i < 4 → get_or (set xs n v) i 0 ≡ get_or (set xs n v) 0 0
+filled-set xs n v some rest i high low =
+    let behind : i ≢ n = omega arith in
+    let front : 0 ≢ n = omega arith in
+    get_or-set_other xs n i v 0 behind ∙ rest i (omega arith) low ∙ sym (get_or-set_other xs n 0 v 0 front)
+
+-- a run with one more place
+pub IsRun-push : (axes : List Axis) (first : ℕ) (run new : Run) (at : Offsets) → run.len < 4
+    → length run.a ≡ 4 → length run.b ≡ 4 → length run.to ≡ 4 → IsRun axes first run → AreOffsets axes (place_at axes (first + run.len)) at
+    → new.len ≡ run.len + 1 → new.a ≡ set run.a run.len at.a → new.b ≡ set run.b run.len at.b → new.to ≡ set run.to run.len at.to
+    → IsRun axes first new
+IsRun-push axes first run new at low len_a len_b len_to r here len a b to = record {
+  some = omega arith;
+  len = omega arith;
+  a = rw (len, a) (front_step (λ i v. v ≡ offset_a axes (place_at axes (first + i)) % 2 ^ 64) run.a 0 at.a run.len (omega arith) r.a here.a);
+  b = rw (len, b) (front_step (λ i v. v ≡ offset_b axes (place_at axes (first + i)) % 2 ^ 64) run.b 0 at.b run.len (omega arith) r.b here.b);
+  to = rw (len, to) (front_step (λ i v. v ≡ offset_to axes (place_at axes (first + i)) % 2 ^ 64) run.to 0 at.to run.len (omega arith) r.to here.to);
+  filled = record {
+    a = rw (len, a) (filled-set run.a run.len at.a r.some r.filled.a);
+    b = rw (len, b) (filled-set run.b run.len at.b r.some r.filled.b);
+  };
+}

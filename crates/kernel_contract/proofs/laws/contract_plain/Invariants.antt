@@ -1,0 +1,15 @@
+use Rattle.std.proofs.Common.{◌-◌}
+use Rattle.kernel_contract.specs.Parts.{Replaced}
+use Rattle.kernel_contract.specs.Walks.{Stands, count, gone}
+use Rattle.kernel_contract.proofs.ContractionLemmas.{target_at, value_at}
+use Rattle.kernel_contract.proofs.laws.contract_plain.Given as goal
+
+abbrev pub invariant-loop-row : goal.invariant-loop-row
+invariant-loop-row g l = record {
+  stands : Stands l.free_a l.row;
+  done : Replaced l.how (target_at l.free_a l.free_b) (value_at l.a l.b l.free_a l.free_b l.shared)
+      (gone l.free_a l.row) (count l.free_b) l.initial.to l.to;
+}
+
+abbrev pub decreases-loop-row : goal.decreases-loop-row
+decreases-loop-row g l = count l.free_a - gone l.free_a l.row

@@ -1,0 +1,7 @@
+pub mod Contraction
+pub mod Places
+pub mod Sum
+pub mod Product
+pub mod Order
+pub mod Walks
+pub mod Parts

@@ -1,0 +1,57 @@
+-- Places by number, the last axis first, and how far a walk over them has come.
+use Rattle.std.specs.Prelude.{ℕ, ◌≡◌, ◌+◌, ◌*◌, ◌/◌, ◌%◌, ◌^◌, ◌<◌, ◌≤◌, List, [], ◌∷◌, if◌then◌else◌, Bool, true, nat_lt}
+use Rattle.std.specs.Prelude.{slice_index}
+use Rattle.kernel_contract.specs.Places.{IsPlace, offset_a, offset_b, offset_to}
+use Rattle.kernel_contract.specs.declared.axis.Axis.{Axis}
+use Rattle.kernel_contract.specs.declared.walk.Offsets.{Offsets}
+use Rattle.kernel_contract.specs.declared.run.Run.{Run}
+use Rattle.kernel_contract.specs.declared.walk.Walk.{Walk}
+
+-- whether an axis has any number
+abbrev pub is_long : Axis → Bool
+is_long x = nat_lt 0 x.len
+
+-- how many places there are
+abbrev pub count : List Axis → ℕ
+count [] = 1
+count (x ∷ xs) = x.len * count xs
+
+-- a place's number, where the last axis runs fastest
+abbrev pub number : List Axis → List ℕ → ℕ
+number [] place = 0
+number (x ∷ xs) [] = 0
+number (x ∷ xs) (n ∷ ns) = n * count xs + number xs ns
+
+-- the place with a number
+abbrev pub place_at : List Axis → ℕ → List ℕ
+place_at [] k = []
+place_at (x ∷ xs) k = k / count xs ∷ place_at xs (k % count xs)
+
+-- these are the offsets of a place, modulo 2^64
+pub record AreOffsets (axes : List Axis) (place : List ℕ) (at : Offsets) : Type 0 where
+  pub a : at.a ≡ offset_a axes place % 2 ^ 64
+  pub b : at.b ≡ offset_b axes place % 2 ^ 64
+  pub to : at.to ≡ offset_to axes place % 2 ^ 64
+
+-- how many places a walk has left behind
+abbrev pub gone : {R : ℕ} → List Axis → Walk R → ℕ
+gone axes walk = if walk.left then number axes walk.at else count axes
+
+-- a walk that has not ended stands at a place, with its offsets
+pub record Stands {R : ℕ} (axes : List Axis) (walk : Walk R) : Type 0 where
+  pub place : walk.left ≡ true → IsPlace axes walk.at
+  pub offsets : walk.left ≡ true → AreOffsets axes walk.at walk.offsets
+
+-- the first place's offsets in the sources fill the rest of the arrays
+pub record IsFilled (run : Run) : Type 0 where
+  pub a : (i : ℕ) → run.len ≤ i → i < 4 → slice_index run.a i ≡ slice_index run.a 0
+  pub b : (i : ℕ) → run.len ≤ i → i < 4 → slice_index run.b i ≡ slice_index run.b 0
+
+-- the offsets of up to four places, from the one with this number on, modulo 2^64; the first fills the rest
+pub record IsRun (axes : List Axis) (first : ℕ) (run : Run) : Type 0 where
+  pub some : 0 < run.len
+  pub len : run.len ≤ 4
+  pub a : (i : ℕ) → i < run.len → slice_index run.a i ≡ offset_a axes (place_at axes (first + i)) % 2 ^ 64
+  pub b : (i : ℕ) → i < run.len → slice_index run.b i ≡ offset_b axes (place_at axes (first + i)) % 2 ^ 64
+  pub to : (i : ℕ) → i < run.len → slice_index run.to i ≡ offset_to axes (place_at axes (first + i)) % 2 ^ 64
+  pub filled : IsFilled run

@@ -1,0 +1,88 @@
+//! The plain contraction: what `contract` does, one number after the other.
+
+ghost use Rattle.std.specs.Prelude.{◌≡◌, ◌+◌, ◌%◌, ◌^◌, ◌<◌, ◌≤◌, ℕ, length};
+ghost use Rattle.kernel_contract.specs.Contraction.{Contracted, Fits};
+ghost use Rattle.kernel_contract.specs.Parts.{AreTargets, Reaches, Replaced, sum_from};
+ghost use Rattle.kernel_contract.specs.Places.{offset_a, offset_b, offset_to};
+ghost use Rattle.kernel_contract.specs.Walks.{count, place_at};
+
+use crate::axis::Axis;
+use crate::packing::number_at;
+use crate::storing::meet;
+use crate::walk::{Offsets, Walk};
+use kernel_permute::How;
+
+/// Contracts as `contract` does, without tiles.
+pub fn contract_plain<const FA: usize, const FB: usize, const S: usize>(
+    a: &[u64],
+    b: &[u64],
+    to: &mut [u64],
+    free_a: &[Axis; FA],
+    free_b: &[Axis; FB],
+    shared: &[Axis; S],
+    how: How,
+)
+    requires { Fits (length a.now) (length b.now) (length to.old)
+        free_a.now free_b.now shared.now }
+    ensures { Contracted a.now b.now to.old to.new free_a.now free_b.now shared.now how }
+{
+    let mut row = Walk::start(free_a);
+    while row.left {
+        let here = row.step(free_a);
+        plain_row(a, b, to, here, free_b, shared, how);
+    }
+}
+
+// one row of the target
+fn plain_row<const FB: usize, const S: usize>(
+    a: &[u64],
+    b: &[u64],
+    to: &mut [u64],
+    row: Offsets,
+    free_b: &[Axis; FB],
+    shared: &[Axis; S],
+    how: How,
+)
+    requires in_a { (j : ℕ) → j < count free_b.now
+        → Reaches offset_a shared.now row.a (length a.now) }
+    requires in_b { (j : ℕ) → j < count free_b.now
+        → Reaches offset_b shared.now (offset_b free_b.now (place_at free_b.now j)) (length b.now) }
+    requires targets { AreTargets
+        (λ i j. (row.to + offset_to free_b.now (place_at free_b.now j)) % 2 ^ 64)
+        1 (count free_b.now) (length to.old) }
+    ensures { Replaced how
+        (λ i j. (row.to + offset_to free_b.now (place_at free_b.now j)) % 2 ^ 64)
+        (λ i j. sum_from a.now b.now shared.now row.a
+        (offset_b free_b.now (place_at free_b.now j)))
+        1 (count free_b.now) to.old to.new }
+{
+    let mut column = Walk::start(free_b);
+    while column.left {
+        let here = column.step(free_b);
+        let value = plain_sum(a, b, row.a, here.b, shared);
+        meet(to, row.to, here.to, value, how);
+    }
+}
+
+// one number's value
+fn plain_sum<const S: usize>(
+    a: &[u64],
+    b: &[u64],
+    from_a: usize,
+    from_b: usize,
+    shared: &[Axis; S],
+) -> u64
+    requires in_a { Reaches offset_a shared.now from_a (length a.now) }
+    requires in_b { Reaches offset_b shared.now from_b (length b.now) }
+    ensures { result ≡ sum_from a.now b.now shared.now from_a from_b }
+{
+    let mut sum = 0u64;
+    let mut walk = Walk::start(shared);
+    while walk.left {
+        let here = walk.step(shared);
+        let left = number_at(a, from_a, here.a);
+        let right = number_at(b, from_b, here.b);
+        sum = sum.wrapping_add(left.wrapping_mul(right));
+    }
+    sum
+}

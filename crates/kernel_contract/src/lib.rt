@@ -1,0 +1,23 @@
+//! Contractions of blocks by tiles, for every split of up to six dimensions.
+#![tactic(auto)]
+
+mod axis;
+mod fronts;
+pub mod laws;
+mod order;
+mod packing;
+mod run;
+mod splits;
+mod storing;
+#[cfg(test)]
+mod tests;
+mod tile_sums;
+mod tiled;
+mod tiles;
+mod walk;
+
+pub use axis::Axis;
+pub use order::is_by_rows;
+pub use splits::contract_any;
+pub use tiled::contract;
+pub use tiles::{tile, tile_any};

@@ -1,0 +1,95 @@
+//! A test of the condition of a contraction, for targets that lie by rows.
+
+ghost use Rattle.std.specs.Prelude.{◌≡◌, ◌+◌, ◌-◌, ◌^◌, IsTrue, min};
+ghost use Rattle.kernel_contract.specs.Contraction.{Fits};
+ghost use Rattle.kernel_contract.specs.Order.{by_rows, greatest, nested, stride_in};
+
+use crate::axis::Axis;
+
+/// Whether all places lie in slices of these lengths, and the target lies by rows: each stride
+/// there is longer than what the axes after it reach, those of `free_b` after those of `free_a`.
+///
+/// A contraction may fit where this is false, since a target may lie otherwise.
+pub fn is_by_rows(
+    a: usize,
+    b: usize,
+    to: usize,
+    free_a: &[Axis],
+    free_b: &[Axis],
+    shared: &[Axis],
+) -> bool
+    ensures value { result ≡ by_rows a b to free_a.now free_b.now shared.now }
+    ensures fits { IsTrue result → Fits a b to free_a.now free_b.now shared.now }
+{
+    lies_by_rows(a, b, to, free_a, free_b, shared)
+}
+
+fn lies_by_rows(
+    a: usize,
+    b: usize,
+    to: usize,
+    free_a: &[Axis],
+    free_b: &[Axis],
+    shared: &[Axis],
+) -> bool
+    ensures { result ≡ by_rows a b to free_a.now free_b.now shared.now }
+{
+    reach(free_a, shared, Side::A) < a as u64
+        && reach(free_b, shared, Side::B) < b as u64
+        && reach(free_a, free_b, Side::To) < to as u64
+        && is_nested(free_a, longest(free_b, Side::To))
+        && is_nested(free_b, 0)
+}
+
+/// One of the three lists of numbers.
+#[derive(Clone, Copy, Debug)]
+pub enum Side {
+    A,
+    B,
+    To,
+}
+
+impl Side {
+    fn stride(self, axis: Axis) -> u32
+        ensures { result ≡ stride_in self axis }
+    {
+        match self {
+            Side::A => axis.a,
+            Side::B => axis.b,
+            Side::To => axis.to,
+        }
+    }
+}
+
+// the greatest offset of a place, as far as a `u64` goes
+fn longest(axes: &[Axis], side: Side) -> u64
+    ensures { result ≡ min (greatest (stride_in side) axes.now) (2 ^ 64 - 1) }
+{
+    match axes {
+        [] => 0,
+        [axis, rest @ ..] => {
+            let last = axis.len.saturating_sub(1) as u64;
+            (last * side.stride(*axis) as u64).saturating_add(longest(rest, side))
+        }
+    }
+}
+
+// the greatest sum of two offsets, as far as a `u64` goes
+fn reach(first: &[Axis], second: &[Axis], side: Side) -> u64
+    ensures { let both = greatest (stride_in side) first.now + greatest (stride_in side) second.now in
+        result ≡ min both (2 ^ 64 - 1) }
+{
+    longest(first, side).saturating_add(longest(second, side))
+}
+
+// whether each stride in the target is longer than `below` and what the axes after it reach
+fn is_nested(axes: &[Axis], below: u64) -> bool
+    ensures { result ≡ nested axes.now below }
+{
+    match axes {
+        [] => true,
+        [axis, rest @ ..] => {
+            longest(rest, Side::To).saturating_add(below) < axis.to as u64 && is_nested(rest, below)
+        }
+    }
+}

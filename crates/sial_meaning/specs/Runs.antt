@@ -1,0 +1,57 @@
+-- What a run of a program by one worker comes to.
+use Rattle.std.specs.Prelude.{◌≡◌, ℕ, List, [], Option, None, length}
+use Rattle.sial_syntax.specs.Shapes.{shape_fault}
+use Rattle.sial_syntax.specs.SideRules.{side_fault}
+use Rattle.sial_syntax.specs.Sides.{scalar_classes, array_sides}
+use Rattle.sial_syntax.specs.Spaces.{Cut, Span, Spaces}
+use Rattle.sial_meaning.specs.Accepted.{Refusal, first_refusal}
+use Rattle.sial_meaning.specs.Meaning.{sequential}
+use Rattle.sial_meaning.specs.Setting.{Setting}
+use Rattle.sial_meaning.specs.State.{State, Epochs}
+use Rattle.sial_meaning.specs.Statement.{Outcome, Went, Stopped}
+
+-- what is seen at the end of a run: numbers, blocks, epochs, how many accesses there were, and the lines
+pub record Final : Type 0 where
+  pub scalars : List (Option ℕ)
+  pub partials : List ℕ
+  pub statics : List (List (List ℕ))
+  pub distributed : List (List ℕ)
+  pub served : List (List ℕ)
+  pub epochs : Epochs
+  pub accesses : ℕ
+  pub lines : List (List ℕ)
+
+-- what is seen of a state
+abbrev pub final_state : State → Final
+final_state s = record {
+  scalars = s.own.scalars;
+  partials = s.partials;
+  statics = s.own.statics;
+  distributed = s.shared.distributed;
+  served = s.shared.served;
+  epochs = s.epochs;
+  accesses = length s.log;
+  lines = s.lines;
+}
+
+-- what is seen at the end, or where a trap came
+abbrev pub final_of : Outcome → Final
+final_of (Went s) = final_state s
+final_of (Stopped trap s) = final_state s
+
+-- a program that the rules grant, with the classes and sides that they find, runs to this end with this first refusal
+pub record Run (g : Setting) (final : Final) (refusal : Option Refusal) : Type 0 where
+  pub shapes : shape_fault g.program ≡ None
+  pub sides : side_fault g.program ≡ None
+  pub classes : scalar_classes g.program ≡ g.scalars
+  pub locals : array_sides g.program ≡ g.sides
+  pub ends : final_of (sequential g) ≡ final
+  pub refused : first_refusal g ≡ refusal
+
+-- a kind with segments of these lengths and no pieces
+abbrev pub whole_segments : List ℕ → Cut
+whole_segments lengths = record { segments = lengths; piece = 0 }
+
+-- spaces with segments of atomic and of molecular orbitals
+abbrev pub spaces_of : (ao mo : List ℕ) → List Span → Spaces
+spaces_of ao mo spans = record { ao = whole_segments ao; mo = whole_segments mo; moa = whole_segments []; mob = whole_segments []; spans = spans }
