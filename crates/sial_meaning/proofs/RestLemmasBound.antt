@@ -30,30 +30,37 @@ GoesKept indices a (Stopped trap s) = Unit {0}
 kept_values : (indices : List ℕ) (a b : Own) → b.values ≡ a.values → Kept indices a b
 kept_values indices a b e = record { len = ap length e; same = λ i w. ap (λ values. slice_index_or values i 0) e }
 
+-- kept, and then kept again
 kept_then : (indices : List ℕ) (a b c : Own) → Kept indices a b → Kept indices b c → Kept indices a c
 kept_then indices a b c k l = record { len = l.len ∙ k.len; same = λ i w. l.same i w ∙ k.same i w }
 
+-- an outcome with the same index numbers
 pub goes_values : (indices : List ℕ) (a : Own) (o : Outcome) → GoesWith a.values o → GoesKept indices a o
 goes_values indices a (Went s) e = kept_values indices a s.own e
 goes_values indices a (Stopped trap s) e = tt
 
+-- an outcome from a state that had kept them
 goes_from : (indices : List ℕ) (a b : Own) (o : Outcome) → Kept indices a b → GoesKept indices b o → GoesKept indices a o
 goes_from indices a b (Went s) k l = kept_then indices a b s.own k l
 goes_from indices a b (Stopped trap s) k l = tt
 
+-- one thing after another
 goes_after : (indices : List ℕ) (a : Own) (o : Outcome) (f : State → Outcome) → GoesKept indices a o → ((s : State) → GoesKept indices s.own (f s)) → GoesKept indices a (after o f)
 goes_after indices a (Went s) f k l = goes_from indices a s.own (f s) k (l s)
 goes_after indices a (Stopped trap s) f k l = tt
 
+-- one thing after another for each number
 goes_over : {X : Type 0} (indices : List ℕ) (xs : List X) (turn : X → State → Outcome) → ((x : X) (s : State) → GoesKept indices s.own (turn x s)) → (s : State) → GoesKept indices s.own (over xs turn s)
 goes_over indices [] turn h s = kept_values indices s.own s.own refl
 goes_over indices (x ∷ xs) turn h s = goes_after indices s.own (turn x s) (over xs turn) (h x s) (goes_over indices xs turn h)
 
+-- one of two ways
 goes_chosen : (indices : List ℕ) (line : ℕ) (answer : Answer Bool) (met unmet : State → Outcome) (s : State) → GoesKept indices s.own (met s) → GoesKept indices s.own (unmet s) → GoesKept indices s.own (chosen line answer met unmet s)
 goes_chosen indices line (Ok true) met unmet s k l = k
 goes_chosen indices line (Ok false) met unmet s k l = l
 goes_chosen indices line (Err kind) met unmet s k l = tt
 
+-- a body that may be left out
 goes_unless : (indices : List ℕ) (met : Bool) (body : State → Outcome) (s : State) → GoesKept indices s.own (body s) → GoesKept indices s.own (unless_left_out met body s)
 goes_unless indices true body s k = k
 goes_unless indices false body s k = kept_values indices s.own s.own refl
@@ -63,10 +70,12 @@ goes_fewer : (more indices : List ℕ) (a : Own) (o : Outcome) → ((i : ℕ) �
 goes_fewer more indices a (Went s) h k = record { len = k.len; same = λ i w. k.same i (h i w) }
 goes_fewer more indices a (Stopped trap s) h k = tt
 
+-- one of two tests passes where the second does
 true_or : (a b : Bool) → b ≡ true → (a || b) ≡ true
 true_or true b e = refl
 true_or false b e = e
 
+-- an index among these is among more
 among_more : (more indices : List ℕ) (i : ℕ) → contains indices i ≡ true → contains (more ++ indices) i ≡ true
 among_more [] indices i e = e
 among_more (x ∷ xs) indices i e = true_or (eqb x i) (contains (xs ++ indices) i) (among_more xs indices i e)

@@ -59,6 +59,7 @@ module _ (reading : Reading) (g : Setting) (proper : IsProper g.program) (grante
           let kept = kept_went indices s.own (form_meaning reading g (calls reading g d) line form s) s1 (form_kept reading g (calls reading g d) (calls_go reading g d) indices within line form out inner.0 s) went in
           block_leads indices within more parts.1 inner.1 (at + size form) r s1 deep (kept.len ∙ len))
 
+      -- so does each
       form_leads : (indices : List ℕ) (within : Bool) (form : Plain) → IsTrue (proper_form g.program form) → share_any (indices_bound form) indices ≡ false → Unbroken g.program (inner_visits indices within form) → (at line : ℕ) (r : Rest) (s : State) → d + depth r ≡ call_depth → length s.own.values ≡ length g.program.indices → Leads reading g (Next at line form r) s (done (form_meaning reading g (calls reading g d) line form s) r)
       form_leads indices within (Do index body) there out e at line r s deep len =
           let parts = both (has_index g.program index) (proper_body g.program body) there in

@@ -35,11 +35,13 @@ answers_if : (values : List ℕ) (b : Bool) (x y : Answer Done) → AnswersWith 
 answers_if values true x y h k = h
 answers_if values false x y h k = k
 
+-- a scalar assigned
 scalar_answers : (values : List ℕ) (scalar : ℕ) (op : Op) (value : ℕ) (own : Own) (partials : List ℕ) (needed : Bool) (old : Answer ℕ) → own.values ≡ values → AnswersWith values (scalar_assigned scalar op value own partials needed old)
 scalar_answers values scalar op value own partials false old e = e
 scalar_answers values scalar op value own partials true (Ok n) e = e
 scalar_answers values scalar op value own partials true (Err kind) e = tt
 
+-- a scalar of any class assigned
 scalar_target_answers : (g : Setting) (class : ScalarClass) (scalar : ℕ) (op : Op) (side : Side) (own : Own) (partials : List ℕ) → AnswersWith own.values (to_scalar g class scalar op side own partials)
 scalar_target_answers g Replicated scalar op side own partials =
     scalar_answers own.values scalar op (scalar_value g side) own partials (needs_old op) (or_trap UnsetScalar (scalar_of own scalar)) refl
@@ -60,6 +62,7 @@ block_answers : (g : Setting) (block : BlockRef) (words : List ℕ → List ℕ)
 block_answers g block words own partials kind (Ok o) = with_words_values g block (words o) own kind
 block_answers g block words own partials kind (Err trap) = tt
 
+-- an assignment
 target_answers : (g : Setting) (to : Target) (op : Op) (side : Side) (own : Own) (partials : List ℕ) → AnswersWith own.values (to_target g to op side own partials)
 target_answers g (target.Scalar s) op side own partials = scalar_target_answers g (scalar_class g s) s op side own partials
 target_answers g (target.Block b) op side own partials =
@@ -72,10 +75,12 @@ target_answers g (target.Block b) op side own partials =
     (array_kind g b.array)
     (old_words g own b (needs_old op || is_insertion g.spaces b.at side) (array_kind g b.array))
 
+-- local blocks allocated
 allocated_values : (g : Setting) (array : ℕ) (numbers : List ℕ) (own : Own) → (all_allocated g array numbers own).values ≡ own.values
 allocated_values g array [] own = refl
 allocated_values g array (n ∷ ns) own = allocated_values g array ns (with_local array n (Some (zeros g array n)) own)
 
+-- local blocks taken away
 deallocated_values : (array : ℕ) (numbers : List ℕ) (own : Own) → (all_deallocated array numbers own).values ≡ own.values
 deallocated_values array [] own = refl
 deallocated_values array (n ∷ ns) own = deallocated_values array ns (with_local array n None own)
@@ -121,14 +126,17 @@ pub reads_own : (g : Setting) (line : ℕ) (blocks : List BlockRef) (s : State) 
 reads_own g line [] s = refl
 reads_own g line (b ∷ bs) s = reads_own g line bs _
 
+-- a local statement
 local_goes : (values : List ℕ) (line : ℕ) (s : State) (answer : Answer Done) → AnswersWith values answer → GoesWith values (local_done line s answer)
 local_goes values line s (Ok done) e = e
 local_goes values line s (Err kind) e = tt
 
+-- a write to a shared block
 put_goes : (line : ℕ) (place : Named) (how : Access) (s : State) (answer : Answer (List ℕ)) → GoesWith s.own.values (put_done line place how s answer)
 put_goes line place how s (Ok words) = refl
 put_goes line place how s (Err kind) = tt
 
+-- the effect of a statement
 effect_goes : (reading : Reading) (g : Setting) (line : ℕ) (form : Plain) (s : State) → GoesWith s.own.values (effect reading g line form s)
 effect_goes reading g line (Get block) s = ap (λ o. o.values) (reads_own g line (block ∷ []) s)
 effect_goes reading g line (Request block) s = ap (λ o. o.values) (reads_own g line (block ∷ []) s)
@@ -142,6 +150,7 @@ effect_goes reading g line (Collective into from) s = refl
 effect_goes reading g line form s =
     local_goes s.own.values line (reads_logged g line (reads_of g form) s) (local_step g form (values_of g reading s (reads_of g form)) s.own s.partials) (step_answers g form (values_of g reading s (reads_of g form)) s.own s.partials)
 
+-- a statement, unless its created flags trap
 trapped_goes : (values : List ℕ) (line : ℕ) (s : State) (trap : Option TrapKind) (next : State → Outcome) → GoesWith values (next s) → GoesWith values (unless_trapped line s trap next)
 trapped_goes values line s None next h = h
 trapped_goes values line s (Some kind) next h = tt

@@ -37,10 +37,12 @@ append_none : {X : Type 0} (xs ys : List X) → xs ++ ys ≡ [] → (xs ≡ []) 
 append_none [] ys e = (refl, e)
 append_none (x ∷ xs) ys e = absurd cc
 
+-- no list is empty whose image has entries
 map_none : {X Y : Type 0} (f : X → Y) (xs : List X) → map f xs ≡ [] → xs ≡ []
 map_none f [] e = refl
 map_none f (x ∷ xs) e = absurd cc
 
+-- an entry that is left out
 kept_none : {X : Type 0} (b : Bool) (x : X) (xs : List X) → cond b (x ∷ xs) xs ≡ [] → (b ≡ false) × (xs ≡ [])
 kept_none true x xs e = absurd cc
 kept_none false x xs e = (refl, e)
@@ -94,7 +96,8 @@ procedure_unbroken p [] number e = refl
 procedure_unbroken p (q ∷ qs) zero e = (unbroken_append p (body_visits q.body) (flat_map (λ (r : Procedure). body_visits r.body) qs) e).0
 procedure_unbroken p (q ∷ qs) (suc n) e = procedure_unbroken p qs n (unbroken_append p (body_visits q.body) (flat_map (λ (r : Procedure). body_visits r.body) qs) e).1
 
-procedure_proper : (p : Tree) (procedures : List Procedure) (number : ℕ) → IsTrue (list_all (proper_procedure p) procedures) → IsTrue (proper_body p (slice_index_or procedures number no_procedure).body)
+-- so are its parts
+pub procedure_proper : (p : Tree) (procedures : List Procedure) (number : ℕ) → IsTrue (list_all (proper_procedure p) procedures) → IsTrue (proper_body p (slice_index_or procedures number no_procedure).body)
 procedure_proper p [] number e = refl
 procedure_proper p (q ∷ qs) zero e =
     let named = both (proper_procedure p q) (list_all (proper_procedure p) qs) e in
@@ -102,10 +105,14 @@ procedure_proper p (q ∷ qs) zero e =
     (both (proper_body p q.body) (nat_le (body_nesting q.body) most_nesting) deep.1).0
 procedure_proper p (q ∷ qs) (suc n) e = procedure_proper p qs n (both (proper_procedure p q) (list_all (proper_procedure p) qs) e).1
 
+-- the parts of the program's own statements are there
+pub body_proper : (p : Tree) → IsProper p → IsTrue (proper_body p p.body)
+body_proper p proper = (both (proper_body p p.body) (nat_le (body_nesting p.body) most_nesting) proper.body).0
+
 -- the program's own statements
 pub body_sound : (p : Tree) → IsProper p → IsGranted p → Sound p [] false p.body
 body_sound p proper granted = record {
-  proper = (both (proper_body p p.body) (nat_le (body_nesting p.body) most_nesting) proper.body).0;
+  proper = body_proper p proper;
   unbroken = (unbroken_append p (body_visits p.body) (flat_map (λ (q : Procedure). body_visits q.body) p.procedures) (granted_unbroken p granted)).0;
 }
 

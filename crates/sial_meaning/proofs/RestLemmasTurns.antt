@@ -153,6 +153,7 @@ module _ (reading : Reading) (g : Setting) where
         (λ u went. others u (keeps t u e went)))
     comes_begun false number f t e others = comes_moved reading g (Within at head indices wheres block (number + 1) rest) t (done (f t) rest) (others t e)
 
+    -- the tuples from this place on, so many in all
     pub leads_within : (n k : ℕ) → k + n ≡ volume (box_of g.spaces indices) → (s : State) → length s.own.values ≡ len → Leads reading g (Within at head indices wheres block k rest) s (done (then_own (over (numbers_from k n) (λ j t. iteration wheres body (on_own (taken_up g indices (tuple_at (box_of g.spaces indices) j)) t)) s) (left g indices)) rest)
     leads_within zero k ends s e =
         leads_step

@@ -13,6 +13,7 @@ pub mod Accepted
 pub mod Costs
 pub mod Course
 pub mod Laws
+pub mod EpochLaws
 pub mod Runs
 pub mod WorkedFirst
 pub mod WorkedSmall
