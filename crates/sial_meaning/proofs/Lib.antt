@@ -8,3 +8,4 @@ pub mod WorkedServedRuns
 pub mod WorkedRulesAre
 pub mod PairLemmas
 pub mod RefusalLemmas
+pub mod PlaceLemmas

@@ -21,3 +21,4 @@ pub mod WorkedPardos
 pub mod WorkedServed
 pub mod WorkedRules
 pub mod AcceptedLaws
+pub mod ReadBackLaws
