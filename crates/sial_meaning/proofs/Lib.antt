@@ -9,3 +9,5 @@ pub mod WorkedRulesAre
 pub mod PairLemmas
 pub mod RefusalLemmas
 pub mod PlaceLemmas
+pub mod PositionLemmas
+pub mod ReadBackLemmas

@@ -1,13 +1,12 @@
 -- Positions by index among places: lists that go side by side, and what is found in them.
-use Rattle.std.proofs.Common.{◌≡◌, ℕ, zero, suc, ◌+◌, ◌<◌, ◌⊎◌, inl, inr, Bool, true, false, ◌==◌, ◌&&◌, ◌||◌, cond, List, [], ◌∷◌, map, zip, length, Option, Some, None, refl, sym, ap, ◌∙◌, subst, arith}
-use Rattle.std.proofs.lemmas.Bool.{eqb-true, eq-eqb, false_from_ne_true, ne_eqb}
-use Rattle.std.specs.List.{list_any}
+use Rattle.std.proofs.Common.{◌≡◌, ℕ, ◌⊎◌, inl, inr, Bool, true, false, ◌==◌, ◌||◌, cond, List, [], ◌∷◌, zip, length, Some, None, refl, sym, ap, ◌∙◌, arith}
+use Rattle.std.proofs.lemmas.Bool.{eqb-true, eq-eqb, false_from_ne_true}
 use Rattle.std.specs.Prelude.{find}
 use Rattle.sial_syntax.specs.Agreeing.{contains, has_twice}
-use Rattle.sial_meaning.proofs.PairLemmas.{never, first-holds, second-holds}
+use Rattle.sial_meaning.proofs.PairLemmas.{never}
 
 -- at one place of two lists stand these two
-pub Beside : {X Y : Type 0} → List X → List Y → X → Y → Type 0
+unfoldable pub Beside : {X Y : Type 0} → List X → List Y → X → Y → Type 0
 Beside [] ys x y = ⊥
 Beside (a ∷ as') [] x y = ⊥
 Beside (a ∷ as') (b ∷ bs) x y = ((a ≡ x) × (b ≡ y)) ⊎ Beside as' bs x y
@@ -67,8 +66,8 @@ beside-some (a ∷ as') (b ∷ bs) x long is =
     elim (either-holds (a == x) (contains as' x) is) as (λ q. (y : _) × Beside (a ∷ as') (b ∷ bs) x y) [
       | inl here ↦ (b, inl (eqb-true a x here, refl))
       | inr later ↦ let rest : length as' ≡ length bs = omega (arith, long) in
-        let found = beside-some as' bs x rest later in
-        (found.0, inr found.1)
+          let found = beside-some as' bs x rest later in
+          (found.0, inr found.1)
     ]
 
 -- the one thing that a test finds
@@ -81,7 +80,7 @@ find-one f (u ∷ us) (q ∷ qs) t p once (inl e) one is =
 find-one f (u ∷ us) (q ∷ qs) t p once (inr at) one is =
     let apart = neither (contains us u) (has_twice us) once in
     let fails : f u ≡ false = false_from_ne_true (f u) (λ here.
-      never (sym apart.0 ∙ (ap (contains us) (one u (or-left (u == u) (contains us u) (eq-eqb u u refl)) here) ∙ beside-in us qs t p at))) in
+    never (sym apart.0 ∙ (ap (contains us) (one u (or-left (u == u) (contains us u) (eq-eqb u u refl)) here) ∙ beside-in us qs t p at))) in
     ap (λ b. cond b (Some (u, q)) (find (λ (q : ℕ × ℕ). f q.0) (zip us qs))) fails
     ∙ find-one f us qs t p apart.1 at (λ v in-us. one v (or-right (u == v) (contains us v) in-us)) is
 

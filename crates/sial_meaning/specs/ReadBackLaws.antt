@@ -1,13 +1,13 @@
 -- What assignments to a block read back: copies in another order, slices and insertions, element by element.
-use Rattle.std.specs.Prelude.{◌≡◌, ℕ, List, [], ◌∷◌, map, zip, length, Bool, true, false, ◌==◌, ◌&&◌, ◌||◌, if◌then◌else◌, Some}
+use Rattle.std.specs.Prelude.{◌≡◌, ℕ, List, [], ◌∷◌, map, zip, length, Bool, true, false, ◌==◌, ◌&&◌, ◌||◌, if◌then◌else◌}
 use Rattle.sial_syntax.specs.Agreeing.{all_in, has_twice}
 use Rattle.sial_syntax.specs.Boxes.{volume, IsTupleOf}
-use Rattle.sial_syntax.specs.Spaces.{Spaces, Extent, extent}
+use Rattle.sial_syntax.specs.Spaces.{Spaces, extent}
 use Rattle.sial_syntax.specs.declared.operand.Op.{Op}
 use Rattle.sial_meaning.specs.LocalStep.{whole_positions}
 use Rattle.sial_meaning.specs.Number.{combined}
 use Rattle.sial_meaning.specs.Right.{Side, Alone, Shown, side_at, met, assigned}
-use Rattle.sial_meaning.specs.Sight.{Sight, Places, cuts, all_lie, offsets, lengths, word_at, element, places_at}
+use Rattle.sial_meaning.specs.Sight.{Sight, Places, cuts, all_lie, offsets, lengths, word_at, places_at}
 
 -- a block with these indices as they have numbers now
 abbrev pub named_block : Spaces → (values at words : List ℕ) → Sight

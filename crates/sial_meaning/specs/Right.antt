@@ -1,5 +1,5 @@
 -- The value of a right side at places, and the block that an assignment makes of its target.
-use Rattle.std.specs.Prelude.{ℕ, ◌*◌, ◌%◌, ◌^◌, List, ◌++◌, map, Bool, false, ◌==◌, ◌&&◌, not, Option, Some, None, filter, zip, sum_by, unwrap_or}
+use Rattle.std.specs.Prelude.{ℕ, ◌*◌, ◌%◌, ◌^◌, List, ◌++◌, map, Bool, false, ◌&&◌, not, Option, Some, None, filter, zip, sum_by, unwrap_or}
 use Rattle.std.specs.List.{list_any}
 use Rattle.sial_syntax.specs.Boxes.{tuples}
 use Rattle.sial_syntax.specs.Spaces.{Spaces, Extent}
