@@ -19,3 +19,6 @@ pub mod WorkedServedRuns
 pub mod WorkedRulesAre
 pub mod PairLemmas
 pub mod RefusalLemmas
+pub mod PlaceLemmas
+pub mod PositionLemmas
+pub mod ReadBackLemmas

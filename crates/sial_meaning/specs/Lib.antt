@@ -23,3 +23,4 @@ pub mod WorkedPardos
 pub mod WorkedServed
 pub mod WorkedRules
 pub mod AcceptedLaws
+pub mod ReadBackLaws

@@ -1,5 +1,5 @@
 -- The value of a right side at places, and the block that an assignment makes of its target.
-use Rattle.std.specs.Prelude.{ℕ, ◌*◌, ◌%◌, ◌^◌, List, ◌++◌, map, Bool, false, ◌==◌, ◌&&◌, not, Option, Some, None, filter, zip, sum_by, unwrap_or}
+use Rattle.std.specs.Prelude.{ℕ, ◌*◌, ◌%◌, ◌^◌, List, ◌++◌, map, Bool, false, ◌&&◌, not, Option, Some, None, filter, zip, sum_by, unwrap_or}
 use Rattle.std.specs.List.{list_any}
 use Rattle.sial_syntax.specs.Boxes.{tuples}
 use Rattle.sial_syntax.specs.Spaces.{Spaces, Extent}
@@ -7,7 +7,7 @@ use Rattle.sial_syntax.specs.declared.operand.Bin.{Bin}
 use Rattle.sial_syntax.specs.declared.operand.Bin.TheVariants.{Plus, Minus, Times, Outer}
 use Rattle.sial_syntax.specs.declared.operand.Op.{Op}
 use Rattle.sial_meaning.specs.Number.{plus, minus, times, combined}
-use Rattle.sial_meaning.specs.Sight.{Sight, Places, cuts, element, places_at, word_at, lengths}
+use Rattle.sial_meaning.specs.Sight.{Sight, Places, cuts, has_index, element, places_at, word_at, lengths}
 
 -- an operand that was read: the same number everywhere, or a block
 pub data Term : Type 0 where
@@ -29,10 +29,6 @@ both f (Some a) (Some b) = Some (f a b)
 abbrev pub term_at : Spaces → Places → Term → Option ℕ
 term_at spaces places (Plain n) = Some n
 term_at spaces places (Shown sight) = element spaces places sight
-
--- whether a list of indices has this one
-abbrev pub has_index : List ℕ → ℕ → Bool
-has_index indices index = list_any (λ i. i == index) indices
 
 -- the indices that two blocks share, with what they lie on
 abbrev pub shared_dims : Sight → Sight → List (ℕ × Extent)

@@ -1,5 +1,6 @@
 -- Blocks where they are named: the positions that they lie on, and their elements by position.
-use Rattle.std.specs.Prelude.{ℕ, ◌+◌, ◌-◌, List, [], ◌∷◌, map, Bool, true, false, ◌==◌, ◌&&◌, ◌||◌, if◌then◌else◌, nat_lt, nat_le, Option, Some, None, find, slice_index_or}
+use Rattle.std.specs.Prelude.{ℕ, ◌+◌, ◌-◌, List, [], ◌∷◌, map, Bool, true, false, ◌==◌, ◌&&◌, ◌||◌, not, if◌then◌else◌, nat_lt, nat_le, Option, Some, None, find, slice_index_or}
+use Rattle.std.specs.List.{list_any}
 use Rattle.sial_syntax.specs.Boxes.{place_of}
 use Rattle.sial_syntax.specs.Spaces.{Spaces, Span, Segments, Pieces, Extent, span_of}
 
@@ -27,14 +28,22 @@ abbrev pub found_or_none : Option (ℕ × ℕ) → ℕ
 found_or_none None = 0
 found_or_none (Some p) = p.1
 
--- the position under the index itself, and else under the one that it cuts or that cuts it
+-- the position under the index itself, and else another
 abbrev pub itself_or : Option (ℕ × ℕ) → Option (ℕ × ℕ) → ℕ
 itself_or None other = found_or_none other
 itself_or (Some p) other = p.1
 
--- the position that an index has among places
-abbrev pub position : Spaces → Places → ℕ → ℕ
-position spaces places index = itself_or (find (λ p. p.0 == index) places) (find (λ p. cuts spaces p.0 index || cuts spaces index p.0) places)
+-- whether a list of indices has this one
+abbrev pub has_index : List ℕ → ℕ → Bool
+has_index indices index = list_any (λ i. i == index) indices
+
+-- whether an index stands for another of a block with these indices: it cuts it or is cut by it, and the block doesn't name it
+abbrev pub stands_for : Spaces → List ℕ → (index other : ℕ) → Bool
+stands_for spaces own index other = not (has_index own other) && (cuts spaces other index || cuts spaces index other)
+
+-- the position that an index of a block with these indices has among places: under the index itself, and else under the one that stands for it
+abbrev pub position : Spaces → List ℕ → Places → ℕ → ℕ
+position spaces own places index = itself_or (find (λ p. p.0 == index) places) (find (λ p. stands_for spaces own index p.0) places)
 
 -- whether a position lies on an extent
 abbrev pub lies_on : Extent → ℕ → Bool
@@ -62,7 +71,7 @@ word_at sight tuple = slice_index_or sight.words (place_of (lengths sight.extent
 
 -- the positions of a block's own indices, taken by name
 abbrev pub positions_of : Spaces → Places → Sight → List ℕ
-positions_of spaces places sight = map (position spaces places) sight.at
+positions_of spaces places sight = map (position spaces sight.at places) sight.at
 
 -- the element of a block at places, none where they lie outside of it
 abbrev pub element : Spaces → Places → Sight → Option ℕ

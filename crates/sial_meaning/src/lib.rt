@@ -5,6 +5,7 @@ pub mod acceptance;
 mod clash;
 pub mod laws;
 pub mod programs;
+pub mod read_back;
 mod standing;
 mod trap;
 
