@@ -1,4 +1,3 @@
-mod Worked
 pub mod EpochLemmas
 pub mod EpochLemmasFine
 pub mod EpochLemmasFold
