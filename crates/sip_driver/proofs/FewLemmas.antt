@@ -1,9 +1,9 @@
 -- No line makes more declarations than there may be.
-use Rattle.std.proofs.Common.{◌≡◌, ℕ, ◌+◌, ◌<◌, ◌≤◌, List, [], ◌∷◌, ◌++◌, length, length-append, Bool, true, false, ◌&&◌, nat_lt, Option, Some, None, Result, Ok, Err, IfOk, refl, ap, ◌∙◌, sym, subst, arith}
+use Rattle.std.proofs.Common.{◌≡◌, ℕ, ◌≤◌, List, [], ◌∷◌, ◌++◌, length, length-append, Bool, true, false, ◌&&◌, nat_lt, Option, Some, None, Result, Ok, Err, IfOk, refl, subst, arith}
 use Rattle.std.proofs.lemmas.Bool.{ltb-true}
 use Rattle.std.proofs.lemmas.Option.{option_and_then_some}
 use Rattle.sial_syntax.specs.Tree.{Plain}
-use Rattle.sip_driver.specs.Built.{Building, Open, one_more, only_if, may_declare, has_no_statement, is_new, index_named, array_named, scalar_named, block_named, stated, with_statement, closed}
+use Rattle.sip_driver.specs.Built.{Building, Open, one_more, only_if, has_no_statement, is_new, index_named, scalar_named, block_named, stated, with_statement, closed}
 use Rattle.sip_driver.specs.BuildingSeen.{IsFew, Steps}
 use Rattle.sip_driver.specs.Lines.{Line, Head, Index, Array, Scalar, Loop, LoopEnd, Fill, AddBlock, SetScalar, AddNumber, Contract, Print, Tail}
 use Rattle.sip_driver.proofs.SoundLemmas.{third}

@@ -1,5 +1,5 @@
 -- The program that two texts are.
-use Rattle.std.proofs.Common.{◌≡◌, ℕ, ◌≤◌, List, [], ◌∷◌, map, length, true, ◌&&◌, nat_le, Option, Some, None, Result, Ok, Err, IfOk, IfSome, IfNone, option_map, refl, ap, ◌∙◌, sym, subst}
+use Rattle.std.proofs.Common.{◌≡◌, ℕ, List, [], ◌∷◌, map, length, true, nat_le, Option, Some, None, Result, Ok, Err, IfOk, IfSome, IfNone, option_map, refl, ap, ◌∙◌, sym, subst}
 use Rattle.std.specs.List.{list_all, All}
 use Rattle.std.specs.Option.{option_and_then}
 use Rattle.std.proofs.lemmas.Bool.{leb-true, le-leb}

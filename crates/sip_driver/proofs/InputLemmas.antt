@@ -1,6 +1,6 @@
 -- The line of an input, and the lengths that it spells.
-use Rattle.std.proofs.Common.{◌≡◌, ℕ, ◌≤◌, ◌+◌, List, [], ◌∷◌, ◌++◌, map, length, take, drop, Bool, true, false, not, ◌&&◌, ◌==◌, nat_lt, nat_le, if◌then◌else◌, codes, Option, Some, None, append_assoc, eqb-true, refl, ap, ◌∙◌, sym, subst, arith}
-use Rattle.std.specs.List.{slice_split, onto_first, list_all, join_with_byte, flat_map, All}
+use Rattle.std.proofs.Common.{◌≡◌, ℕ, ◌≤◌, List, [], ◌∷◌, ◌++◌, map, length, take, drop, Bool, true, false, not, ◌&&◌, ◌==◌, nat_lt, nat_le, if◌then◌else◌, codes, Option, Some, None, append_assoc, eqb-true, refl, ap, ◌∙◌, sym, subst, arith}
+use Rattle.std.specs.List.{slice_split, list_all, join_with_byte, flat_map, All}
 use Rattle.std.specs.Option.{option_and_then}
 use Rattle.std.specs.Str.{bytes_eq}
 use Rattle.std.proofs.lemmas.Bool.{ltb-true, lt-ltb, leb-true, le-leb}
@@ -73,7 +73,7 @@ digits_not c h [] e = refl
 digits_not c h (d ∷ ds) e =
     both (not (d == c)) (list_all (λ b. not (b == c)) ds)
     (elim (d == c) as (λ t. (d == c) ≡ t → not t ≡ true) [
-      true ↦ λ q. let k : is_digit c ≡ true = subst (λ (x : ℕ). is_digit x ≡ true) (eqb-true d c q) (first_of_two (is_digit d) (list_all is_digit ds) e) in absurd cc
+      | true ↦ λ q. let k : is_digit c ≡ true = subst (λ (x : ℕ). is_digit x ≡ true) (eqb-true d c q) (first_of_two (is_digit d) (list_all is_digit ds) e) in absurd cc
       | false ↦ λ q. refl
     ] refl)
     (digits_not c h ds (last_of_two (is_digit d) (list_all is_digit ds) e))

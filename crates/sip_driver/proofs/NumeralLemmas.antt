@@ -1,12 +1,12 @@
 -- The number that digits spell, found from left to right.
-use Rattle.std.proofs.Common.{◌≡◌, ℕ, ◌+◌, ◌-◌, ◌*◌, ◌^◌, ◌<◌, ◌≤◌, List, [], ◌∷◌, Bool, true, false, ◌&&◌, nat_lt, Option, Some, None, refl, ap, ◌∙◌, sym, arith}
+use Rattle.std.proofs.Common.{◌≡◌, ℕ, ◌+◌, ◌-◌, ◌*◌, ◌^◌, ◌<◌, ◌≤◌, List, [], ◌∷◌, Bool, true, false, ◌&&◌, nat_lt, Some, None, refl, ap, ◌∙◌, sym, arith}
 use Rattle.std.specs.List.{fold, list_all}
 use Rattle.std.specs.Option.{option_and_then}
 use Rattle.std.proofs.lemmas.Bool.{lt-ltb, le-ltb, ltb-true, ltb-false}
 use Rattle.sial_syntax.specs.Names.{is_digit}
 use Rattle.sip_driver.specs.Built.{only_if}
 use Rattle.sip_driver.specs.Lines.{is_numeral, value_of}
-use Rattle.sip_driver.specs.Reading.{number_from, number_after, number_in}
+use Rattle.sip_driver.specs.Reading.{number_from, number_in}
 
 -- one more digit
 abbrev more : ℕ → ℕ → ℕ

@@ -1,6 +1,6 @@
 -- The place of a name among declarations.
 use Rattle.std.proofs.Common.{◌≡◌, ℕ, ◌+◌, List, [], ◌∷◌, map, Bool, cond, not, refl, ap, sym}
-use Rattle.std.specs.List.{position, position_or_len, prefix_len}
+use Rattle.std.specs.List.{position, position_or_len}
 use Rattle.std.proofs.lemmas.List.{length-map}
 
 place_in_map : {X : Type 0} (test : List ℕ → Bool) (g : X → List ℕ) (xs : List X) → position_or_len (λ x. test (g x)) xs ≡ position_or_len test (map g xs)

@@ -20,13 +20,13 @@ kept_last (y ∷ z ∷ more) x e = ap (λ l. y ∷ l) (kept_last (z ∷ more) x 
 pub front_seen : (texts front : List (Bor (List ℕ))) (last : Bor (List ℕ)) → texts ≡ front ++ last ∷ [] → last.now ≡ [] → map (λ l. l.now) front ≡ without_empty_last (map (λ l. l.now) texts)
 front_seen texts front last e empty =
     let pushed : map (λ (l : Bor (List ℕ)). l.now) texts ≡ map (λ (l : Bor (List ℕ)). l.now) front ++ [] ∷ [] =
-        ap (map (λ (l : Bor (List ℕ)). l.now)) e ∙ map_push (λ (l : Bor (List ℕ)). l.now) front last ∙ ap (λ x. map (λ (l : Bor (List ℕ)). l.now) front ++ x ∷ []) empty in
+    ap (map (λ (l : Bor (List ℕ)). l.now)) e ∙ map_push (λ (l : Bor (List ℕ)). l.now) front last ∙ ap (λ x. map (λ (l : Bor (List ℕ)). l.now) front ++ x ∷ []) empty in
     sym (ap without_empty_last pushed ∙ dropped_empty (map (λ l. l.now) front))
 
 pub all_seen : (texts front : List (Bor (List ℕ))) (last : Bor (List ℕ)) → texts ≡ front ++ last ∷ [] → has_any last.now ≡ true → map (λ l. l.now) texts ≡ without_empty_last (map (λ l. l.now) texts)
 all_seen texts front last e any =
     let pushed : map (λ (l : Bor (List ℕ)). l.now) texts ≡ map (λ (l : Bor (List ℕ)). l.now) front ++ last.now ∷ [] =
-        ap (map (λ (l : Bor (List ℕ)). l.now)) e ∙ map_push (λ (l : Bor (List ℕ)). l.now) front last in
+    ap (map (λ (l : Bor (List ℕ)). l.now)) e ∙ map_push (λ (l : Bor (List ℕ)). l.now) front last in
     pushed ∙ sym (kept_last (map (λ l. l.now) front) last.now any) ∙ sym (ap without_empty_last pushed)
 
 pub is_empty_list : (x : List ℕ) → true ≡ (length x == 0) → x ≡ []

@@ -1,6 +1,6 @@
 -- Programs that are read can run: each number in them names something that is there.
-use Rattle.std.proofs.Common.{◌≡◌, ℕ, ◌+◌, ◌<◌, ◌≤◌, ◌^◌, List, [], ◌∷◌, ◌++◌, map, length, length-append, Bool, true, false, ◌&&◌, ◌==◌, nat_lt, Option, Some, None, is_none, eqb-true, refl, ap, ◌∙◌, sym, subst, arith}
-use Rattle.std.specs.List.{list_all, position, All}
+use Rattle.std.proofs.Common.{◌≡◌, ℕ, ◌<◌, ◌≤◌, ◌^◌, List, [], ◌∷◌, ◌++◌, map, length, length-append, true, ◌&&◌, ◌==◌, nat_lt, Option, Some, None, is_none, eqb-true, refl, ap, ◌∙◌, sym, subst, arith}
+use Rattle.std.specs.List.{list_all, All}
 use Rattle.std.specs.Option.{option_and_then}
 use Rattle.std.specs.Str.{bytes_eq}
 use Rattle.std.proofs.lemmas.Bool.{ltb-true}
@@ -16,12 +16,12 @@ use Rattle.sial_syntax.specs.declared.operand.Op.TheVariants.{Set, Add}
 use Rattle.sial_syntax.specs.declared.operand.Operand.TheVariants as operand
 use Rattle.sial_syntax.specs.declared.operand.Right.TheVariants.{One, Two}
 use Rattle.sial_syntax.specs.declared.operand.Target.TheVariants as target
-use Rattle.sial_syntax.specs.Tree.{Tree, Block, Plain, Do, Assign, PrintScalar, block_of}
-use Rattle.sip_driver.specs.Built.{Building, Open, begun, one_more, only_if, may_declare, has_no_statement, is_new, numbered, index_named, array_named, scalar_named, block_named, stated, with_statement, closed, is_looped, is_over, dims_of, ended, tree_of, finished, built}
-use Rattle.sip_driver.specs.First.{IsArray, OneBelow, IsBlock, IsNumber, IsForm, IsBody, dims_in}
+use Rattle.sial_syntax.specs.Tree.{Tree, Plain, Do, Assign, PrintScalar, block_of}
+use Rattle.sip_driver.specs.Built.{Building, Open, begun, one_more, only_if, has_no_statement, numbered, index_named, array_named, scalar_named, block_named, stated, with_statement, closed, is_looped, is_over, dims_of, ended, tree_of, finished, built}
+use Rattle.sip_driver.specs.First.{IsArray, OneBelow, IsBlock, IsNumber, IsForm, IsBody}
 use Rattle.sip_driver.specs.Lines.{Line, Head, Index, Array, Scalar, Loop, LoopEnd, Fill, AddBlock, SetScalar, AddNumber, Contract, Print, Tail, is_sound, is_numeral, value_of, has_any}
 use Rattle.sip_driver.proofs.FewLemmas.{only_some}
-use Rattle.sip_driver.proofs.SoundLemmas.{first_of_two, last_of_two, second, third}
+use Rattle.sip_driver.proofs.SoundLemmas.{first_of_two, last_of_two, third}
 use Rattle.sip_driver.proofs.TreeLemmas.{finished_more}
 
 -- a tree with the declarations so far
@@ -54,8 +54,8 @@ fine_stated b (Some o) form h e f = record {
   arrays = h.arrays;
   body = h.body;
   loop = λ rest.
-    let k : IsOpen (over b rest) (Some o) = subst (IsOpen (over b rest)) e (h.loop rest) in
-    (k.0, body_more (over b rest) (Some o.index) o.body (b.line, form) k.1 (f rest));
+      let k : IsOpen (over b rest) (Some o) = subst (IsOpen (over b rest)) e (h.loop rest) in
+      (k.0, body_more (over b rest) (Some o.index) o.body (b.line, form) k.1 (f rest));
 }
 
 fine_form : (b c : Building) (form : Plain) → IsFine b → ((rest : Tree) → IsForm (over b rest) (loop_index b.loop) form) → Some (stated b form) ≡ Some c → IsFine c
@@ -74,11 +74,11 @@ fine_declared : (b c : Building) → has_no_statement b ≡ true → c.body ≡ 
 fine_declared b c e x y arrays = record {
   arrays = arrays;
   body = λ rest.
-    let none : c.body ≡ [] = x ∙ no_items b.body (first_of_two (length b.body == 0) (is_none b.loop) e) in
-    subst (λ (l : List (ℕ × Plain)). IsBody (over c rest) None (block_of l)) (sym none) tt;
+      let none : c.body ≡ [] = x ∙ no_items b.body (first_of_two (length b.body == 0) (is_none b.loop) e) in
+      subst (λ (l : List (ℕ × Plain)). IsBody (over c rest) None (block_of l)) (sym none) tt;
   loop = λ rest.
-    let none : c.loop ≡ None = y ∙ no_loop b.loop (last_of_two (length b.body == 0) (is_none b.loop) e) in
-    subst (IsOpen (over c rest)) (sym none) tt;
+      let none : c.loop ≡ None = y ∙ no_loop b.loop (last_of_two (length b.body == 0) (is_none b.loop) e) in
+      subst (IsOpen (over c rest)) (sym none) tt;
 }
 
 one_below : (n m : ℕ) (dims : List ℕ) → n ≤ m → OneBelow n dims → OneBelow m dims

@@ -1,10 +1,10 @@
 -- A text and its lines.
-use Rattle.std.proofs.Common.{◌≡◌, ℕ, List, [], ◌∷◌, ◌++◌, Bool, true, false, cond, not, ◌&&◌, ◌==◌, if◌then◌else◌, ◌⊎◌, inl, inr, append_assoc, refl, ap, ◌∙◌, sym, subst}
+use Rattle.std.proofs.Common.{◌≡◌, ℕ, List, [], ◌∷◌, ◌++◌, Bool, true, false, not, ◌==◌, if◌then◌else◌, ◌⊎◌, inl, inr, append_assoc, refl, ap, ◌∙◌, sym, subst}
 use Rattle.std.specs.List.{slice_split, onto_first, list_all, join_with_byte}
 use Rattle.std.proofs.lemmas.List.Splits.{slice_split-cons_yes, slice_split-cons_no, join_with_byte-slice_split}
-use Rattle.sip_driver.specs.Lines.{IsTextOf, has_any}
+use Rattle.sip_driver.specs.Lines.{IsTextOf}
 use Rattle.sip_driver.specs.Reading.{lines_in, without_empty_last}
-use Rattle.sip_driver.proofs.LineLemmas.{IsClean, is_within}
+use Rattle.sip_driver.proofs.LineLemmas.{IsClean}
 use Rattle.sip_driver.proofs.ReadingLemmas.{dropped_empty}
 use Rattle.sip_driver.proofs.SoundLemmas.{first_of_two, last_of_two}
 

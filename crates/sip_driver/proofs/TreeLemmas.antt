@@ -1,11 +1,11 @@
 -- The lines of a program, and the tree that they build.
-use Rattle.std.proofs.Common.{◌≡◌, ℕ, List, [], ◌∷◌, ◌++◌, map, Bool, true, false, ◌&&◌, Option, Some, None, refl, ap, ◌∙◌, sym, subst}
+use Rattle.std.proofs.Common.{◌≡◌, ℕ, List, [], ◌∷◌, map, Bool, true, ◌&&◌, Some, refl, ap, ◌∙◌, sym, subst}
 use Rattle.std.specs.List.{list_all}
 use Rattle.std.specs.Option.{option_and_then}
 use Rattle.std.proofs.lemmas.Option.{option_and_then_some}
 use Rattle.sial_syntax.specs.Tree.{Tree}
-use Rattle.sip_driver.specs.Built.{Building, begun, one_more, ended, finished, built}
-use Rattle.sip_driver.specs.Lines.{Line, Head, Index, Array, Scalar, Loop, LoopEnd, Fill, AddBlock, SetScalar, AddNumber, Contract, Print, Tail, spelled, is_sound}
+use Rattle.sip_driver.specs.Built.{Building, begun, one_more, finished, built}
+use Rattle.sip_driver.specs.Lines.{Line, Head, Tail, spelled, is_sound}
 use Rattle.sip_driver.specs.Reading.{line_of, begun_by, ended_by, tree_from, tree_of_lines, with_text}
 use Rattle.sip_driver.proofs.LineLemmas.{line_is, line_again}
 use Rattle.sip_driver.proofs.SoundLemmas.{first_of_two, last_of_two}

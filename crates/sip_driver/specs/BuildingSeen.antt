@@ -1,5 +1,5 @@
 -- A program so far, in the code, as definitions see it.
-use Rattle.std.specs.Prelude.{◌≡◌, ℕ, ◌≤◌, List, map, length, Bool, true, false, Option, Some, None, option_map}
+use Rattle.std.specs.Prelude.{◌≡◌, ◌≤◌, map, length, Bool, true, false, Option, Some, None, option_map}
 use Rattle.sial_syntax.specs.Tree.{plain_stmt}
 use Rattle.sip_driver.specs.declared.building.Building.{Building}
 use Rattle.sip_driver.specs.declared.building.Open.{Open}

@@ -1,5 +1,5 @@
 -- Programs with one more declaration, or with a loop that opens.
-use Rattle.std.specs.Prelude.{ℕ, List, [], ◌∷◌, ◌++◌, length, Option, Some, None, is_none, option_and_then}
+use Rattle.std.specs.Prelude.{ℕ, List, [], ◌∷◌, ◌++◌, length, Option, Some, is_none, option_and_then}
 use Rattle.sial_syntax.specs.declared.array.ArrayKind.TheVariants.{Static}
 use Rattle.sial_syntax.specs.declared.index.Bound.TheVariants.{Number}
 use Rattle.sial_syntax.specs.declared.index.Kind.TheVariants.{Ao}

@@ -1,5 +1,5 @@
 -- How texts are read: step by step, each step exact.
-use Rattle.std.specs.Prelude.{ℕ, ◌+◌, ◌-◌, ◌*◌, ◌^◌, List, [], ◌∷◌, ◌++◌, filter, length, take, drop, Bool, true, false, ◌==◌, ◌&&◌, not, nat_lt, nat_le, codes, Option, Some, None, if◌then◌else◌, slice_index_or, option_and_then}
+use Rattle.std.specs.Prelude.{ℕ, ◌+◌, ◌-◌, ◌*◌, ◌^◌, List, [], ◌∷◌, ◌++◌, filter, length, take, drop, Bool, false, ◌==◌, ◌&&◌, not, nat_lt, nat_le, codes, Option, Some, None, if◌then◌else◌, slice_index_or, option_and_then}
 use Rattle.std.specs.List.{slice_split, list_all}
 use Rattle.std.specs.Str.{bytes_eq}
 use Rattle.sial_syntax.specs.Names.{is_name_byte, is_digit}

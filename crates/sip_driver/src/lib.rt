@@ -23,6 +23,7 @@ mod reader;
 mod run;
 mod say;
 mod segments;
+mod spelling;
 mod start;
 mod statements;
 mod status;

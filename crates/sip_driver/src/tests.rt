@@ -37,13 +37,18 @@ fn texts_of_the_first_profile_are_read(rt: HostRuntime) -> Result<(), AllocError
         ),
     ];
     for (i, (program, input)) in program_of.iter().enumerate() {
-        assert!(rt; read_first(rt.alloc(), program, input)?.is_some(), "text {i}");
+        assert!(rt;
+            read_first(rt.alloc(), program, input)?.is_some(),
+            "text {i}"
+        );
     }
     Ok(())
 }
 
 #[test]
-fn programs_that_are_nearly_of_the_first_profile_are_refused(rt: HostRuntime) -> Result<(), AllocError> {
+fn programs_that_are_nearly_of_the_first_profile_are_refused(
+    rt: HostRuntime,
+) -> Result<(), AllocError> {
     let programs: [&[u8]; 20] = [
         b"",
         b"\n",
@@ -67,13 +72,18 @@ fn programs_that_are_nearly_of_the_first_profile_are_refused(rt: HostRuntime) ->
         b"sial n\nscalar a\nscalar b\nscalar c\nscalar d\nscalar e\nscalar f\nscalar g\nscalar h\nscalar i\nendsial n\n",
     ];
     for (i, program) in programs.iter().enumerate() {
-        assert!(rt; read_first(rt.alloc(), program, INPUT)?.is_none(), "program {i}");
+        assert!(rt;
+            read_first(rt.alloc(), program, INPUT)?.is_none(),
+            "program {i}"
+        );
     }
     Ok(())
 }
 
 #[test]
-fn inputs_that_are_nearly_of_the_first_profile_are_refused(rt: HostRuntime) -> Result<(), AllocError> {
+fn inputs_that_are_nearly_of_the_first_profile_are_refused(
+    rt: HostRuntime,
+) -> Result<(), AllocError> {
     let inputs: [&[u8]; 10] = [
         b"",
         b"segments ao",
@@ -87,7 +97,10 @@ fn inputs_that_are_nearly_of_the_first_profile_are_refused(rt: HostRuntime) -> R
         b"segments mo 2 1\n",
     ];
     for (i, input) in inputs.iter().enumerate() {
-        assert!(rt; read_first(rt.alloc(), FIRST, input)?.is_none(), "input {i}");
+        assert!(rt;
+            read_first(rt.alloc(), FIRST, input)?.is_none(),
+            "input {i}"
+        );
     }
     Ok(())
 }

@@ -1,6 +1,6 @@
 use Rattle.std.proofs.Common.{◌≡◌, ◌++◌, drop}
 use Rattle.std.specs.List.{flat_map}
-use Rattle.sip_driver.proofs.line.joined.Given as goal
+use Rattle.sip_driver.proofs.spelling.joined.Given as goal
 
 -- the parts so far, and those that are left
 abbrev pub invariant-loop-part : goal.invariant-loop-part
