@@ -1,6 +1,6 @@
 //! Parts of blocks put in.
 
-ghost use Rattle.std.specs.Prelude.{◌≡◌, ◌+◌, ◌≤◌, ◌<◌, [], ◌∷◌, length};
+ghost use Rattle.std.specs.Prelude.{◌≡◌, ◌+◌, ◌*◌, ◌/◌, ◌≤◌, ◌<◌, [], ◌∷◌, length};
 ghost use Rattle.kernel_permute.specs.Inserting.{inserted};
 ghost use Rattle.kernel_permute.specs.Parts.{dims_of, sizes, starts};
 ghost use Rattle.kernel_permute.specs.Positions.{product};
@@ -84,7 +84,7 @@ fn insert_block(from: &[u64], parts: &[Part], to: &mut [u64], how: How)
     match parts {
         [] => to[0] = how.combine(to[0], from[0]),
         [first, rest @ ..] => {
-            let width = to.len() / first.dim;
+            let width = row_width(first.dim, rest, to.len());
             let inner = &mut to[first.at * width..(first.at + first.size) * width];
             insert_rows(from, first.size, rest, inner, how);
         }
@@ -101,8 +101,8 @@ fn insert_rows(from: &[u64], count: usize, rest: &[Part], to: &mut [u64], how: H
     requires some { 0 < length from.now }
     ensures value { to.new ≡ inserted how (count ∷ sizes rest.now) from.now (count ∷ dims_of rest.now) (0 ∷ starts rest.now) to.old }
 {
-    let piece = from.len() / count;
-    let width = to.len() / count;
+    let piece = row_size(count, rest, from.len());
+    let width = row_width(count, rest, to.len());
     for i in 0..count {
         insert(
             &from[i * piece..(i + 1) * piece],
@@ -110,5 +110,32 @@ fn insert_rows(from: &[u64], count: usize, rest: &[Part], to: &mut [u64], how: H
             &mut to[i * width..(i + 1) * width],
             how,
         );
+    }
+}
+
+// How many numbers of the source lie in each of so many rows. Where a row has one dimension this
+// takes no division, which would cost as much as a short row.
+#[inline(always)]
+fn row_size(count: usize, rest: &[Part], numbers: usize) -> usize
+    requires numbers { numbers ≡ count * product (sizes rest.now) }
+    requires some { 0 < numbers }
+    ensures { result ≡ numbers / count }
+{
+    match rest {
+        [row] => row.size,
+        _ => numbers / count,
+    }
+}
+
+// The same of the target.
+#[inline(always)]
+fn row_width(count: usize, rest: &[Part], numbers: usize) -> usize
+    requires numbers { numbers ≡ count * product (dims_of rest.now) }
+    requires some { 0 < numbers }
+    ensures { result ≡ numbers / count }
+{
+    match rest {
+        [row] => row.dim,
+        _ => numbers / count,
     }
 }

@@ -1,6 +1,6 @@
 //! Reading a source along strides into a target that is written in order.
 
-ghost use Rattle.std.specs.Prelude.{◌≡◌, ◌+◌, ◌*◌, ◌-◌, ◌<◌, [], ◌∷◌, length};
+ghost use Rattle.std.specs.Prelude.{◌≡◌, ◌+◌, ◌*◌, ◌-◌, ◌/◌, ◌<◌, [], ◌∷◌, length};
 ghost use Rattle.kernel_permute.specs.Positions.{each_number, product};
 ghost use Rattle.kernel_permute.specs.Strided.{lengths, met, reach, strides};
 
@@ -45,7 +45,7 @@ fn read_block(from: &[u64], base: usize, axes: &[Axis], to: &mut [u64], how: How
     match axes {
         [] => to[0] = how.combine(to[0], from[base]),
         [first, rest @ ..] => {
-            let width = to.len() / first.len;
+            let width = row_width(first, rest, to.len());
             for i in 0..first.len {
                 read(
                     from,
@@ -56,5 +56,19 @@ fn read_block(from: &[u64], base: usize, axes: &[Axis], to: &mut [u64], how: How
                 );
             }
         }
+    }
+}
+
+// How many numbers of the target lie between two steps along the first axis: for rows told
+// without a division, which would cost as much as a short row.
+#[inline(always)]
+fn row_width(first: &Axis, rest: &[Axis], count: usize) -> usize
+    requires count { count ≡ first.now.len * product (lengths rest.now) }
+    requires some { 0 < count }
+    ensures { result ≡ count / first.now.len }
+{
+    match rest {
+        [row] => row.len,
+        _ => count / first.len,
     }
 }
