@@ -11,3 +11,6 @@ pub mod RefusalLemmas
 pub mod PlaceLemmas
 pub mod PositionLemmas
 pub mod ReadBackLemmas
+pub mod WorkedPartsRuns
+pub mod WorkedCallsRuns
+pub mod WorkedTrapsRuns

@@ -22,3 +22,6 @@ pub mod WorkedServed
 pub mod WorkedRules
 pub mod AcceptedLaws
 pub mod ReadBackLaws
+pub mod WorkedParts
+pub mod WorkedCalls
+pub mod WorkedTraps
