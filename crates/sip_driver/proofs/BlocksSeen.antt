@@ -11,7 +11,7 @@ use Rattle.sial_syntax.specs.declared.operand.Op.{Op}
 use Rattle.sial_syntax.specs.declared.operand.Op.TheVariants.{Set, Add}
 use Rattle.sial_meaning.specs.Number.{plus, combined}
 use Rattle.sial_meaning.specs.Right.{Term, Plain, Shown, Side, Alone, Joined, assigned, product_at, shared_dims, dim_lengths, side_at, met, both}
-use Rattle.sial_meaning.specs.Sight.{Sight, element, position, itself_or, cuts, word_at, lies_on, places_at, lengths}
+use Rattle.sial_meaning.specs.Sight.{Sight, element, position, itself_or, stands_for, word_at, lies_on, places_at, lengths}
 use Rattle.sip_driver.proofs.Places.{tuples-one, map-tuples, place-one, map-from, map-same, map-read, numbers-step}
 
 -- a number is itself
@@ -27,10 +27,10 @@ abbrev pub one : (index : ℕ) → Extent → List ℕ → Sight
 one index extent words = record { at = index ∷ []; extents = extent ∷ []; words = words }
 
 -- the position of an index that was given one
-pub position-one : (spaces : Spaces) (index p : ℕ) → position spaces ((index, p) ∷ []) index ≡ p
+pub position-one : (spaces : Spaces) (index p : ℕ) → position spaces (index ∷ []) ((index, p) ∷ []) index ≡ p
 position-one spaces index p =
     ap
-    (λ b. itself_or (cond b (Some (index, p)) None) (find (λ (q : ℕ × ℕ). cuts spaces q.0 index || cuts spaces index q.0) ((index, p) ∷ [])))
+    (λ b. itself_or (cond b (Some (index, p)) None) (find (λ (q : ℕ × ℕ). stands_for spaces (index ∷ []) index q.0) ((index, p) ∷ [])))
     (same-self index)
 
 -- the element of a block with one index at a position of that index
