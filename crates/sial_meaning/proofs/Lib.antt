@@ -14,3 +14,4 @@ pub mod ReadBackLemmas
 pub mod WorkedPartsRuns
 pub mod WorkedCallsRuns
 pub mod WorkedTrapsRuns
+pub mod MarkLemmas

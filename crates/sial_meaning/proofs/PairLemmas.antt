@@ -45,10 +45,10 @@ class-self a Distributed same = ap (λ c. same_class c Distributed) same
 class-self a Served same = ap (λ c. same_class c Served) same
 
 -- the class, epoch and block of an access, and its kind's test
-record At (class : Class) (epoch block : ℕ) (t : Touch) : Type 0 where
-  class_is : t.class ≡ class
-  epoch_is : t.epoch ≡ epoch
-  block_is : t.block ≡ block
+pub record At (class : Class) (epoch block : ℕ) (t : Touch) : Type 0 where
+  pub class_is : t.class ≡ class
+  pub epoch_is : t.epoch ≡ epoch
+  pub block_is : t.block ≡ block
 
 at-is : (class : Class) (epoch block : ℕ) (kind : Access → Bool) (t : Touch) → is_at class epoch block kind t ≡ true → At class epoch block t × (kind t.kind ≡ true)
 at-is class epoch block kind t is =
@@ -67,13 +67,13 @@ is-at class epoch block kind t at is =
     (both-hold (t.block == block) (kind t.kind) (eq-eqb t.block block at.block_is) is))
 
 -- two accesses at one place
-place-from : (class : Class) (epoch block : ℕ) (t u : Touch) → At class epoch block t → At class epoch block u → same_place u t ≡ true
+pub place-from : (class : Class) (epoch block : ℕ) (t u : Touch) → At class epoch block t → At class epoch block u → same_place u t ≡ true
 place-from class epoch block t u at-t at-u =
     both-hold (same_class u.class t.class) ((u.epoch == t.epoch) && (u.block == t.block)) (class-self u.class t.class (at-u.class_is ∙ sym at-t.class_is))
     (both-hold (u.epoch == t.epoch) (u.block == t.block) (eq-eqb u.epoch t.epoch (at-u.epoch_is ∙ sym at-t.epoch_is)) (eq-eqb u.block t.block (at-u.block_is ∙ sym at-t.block_is)))
 
 -- an access at the place of another
-place-at : (t u : Touch) → same_place u t ≡ true → At t.class t.epoch t.block u
+pub place-at : (t u : Touch) → same_place u t ≡ true → At t.class t.epoch t.block u
 place-at t u same =
     let rest = second-holds (same_class u.class t.class) ((u.epoch == t.epoch) && (u.block == t.block)) same in
     record {
@@ -125,7 +125,7 @@ count-some p (x ∷ xs) (suc k) d below holds =
     omega (arith, some, more)
 
 -- kinds that may stand together are one
-only : (k x : Access) → may_stand k x ≡ true → x ≡ k
+pub only : (k x : Access) → may_stand k x ≡ true → x ≡ k
 only Read Read stands = refl
 only Add Add stands = refl
 only Max Max stands = refl
@@ -304,7 +304,7 @@ count-is class epoch block log Max = refl
 count-is class epoch block log Store = refl
 
 -- an access at its own place
-at-self : (t : Touch) → At t.class t.epoch t.block t
+pub at-self : (t : Touch) → At t.class t.epoch t.block t
 at-self t = record { class_is = refl; epoch_is = refl; block_is = refl }
 
 -- where counts are uniform the first access stands with each later one

@@ -25,3 +25,4 @@ pub mod ReadBackLaws
 pub mod WorkedParts
 pub mod WorkedCalls
 pub mod WorkedTraps
+pub mod MarkLaws

@@ -1,9 +1,11 @@
 //! What acceptance says in other words: laws that proofs above cite, with nothing to run.
 
 ghost use Rattle.sial_meaning.specs.AcceptedLaws.{NoRefusalSaysAccepted, PairsSayCounts};
+ghost use Rattle.sial_meaning.specs.MarkLaws.{MarksFindFirstClash};
 
-/// Pairs of the log and counts say the same, and a program is accepted exactly where nothing refuses it.
+/// Pairs of the log, counts and the marks of blocks say the same, and a program is accepted exactly where nothing refuses it.
 pub fn accepted_in_other_words()
     ensures counts { PairsSayCounts }
     ensures refusal { NoRefusalSaysAccepted }
+    ensures marks { MarksFindFirstClash }
 {}
