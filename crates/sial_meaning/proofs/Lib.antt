@@ -7,6 +7,7 @@ pub mod WorkedPardosRuns
 pub mod WorkedServedRuns
 pub mod WorkedRulesAre
 pub mod PairLemmas
+pub mod CountLemmas
 pub mod RefusalLemmas
 pub mod PlaceLemmas
 pub mod PositionLemmas
@@ -15,3 +16,4 @@ pub mod WorkedPartsRuns
 pub mod WorkedCallsRuns
 pub mod WorkedTrapsRuns
 pub mod MarkLemmas
+pub mod WorkedUnsetRuns

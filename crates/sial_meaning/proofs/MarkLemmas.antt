@@ -12,7 +12,8 @@ use Rattle.sial_syntax.specs.declared.access.Class.{Class}
 use Rattle.sial_meaning.specs.Access.{Touch, Mark, same_class, same_place, may_stand, clashes, clash_with, found, first_clash, clash_of, mark_after}
 use Rattle.sial_meaning.specs.Accepted.{StandsWith}
 use Rattle.sial_meaning.specs.MarkLaws.{Marks, no_marks, marked, found_or, marks_find, NeverFalls, MarksFindFirstClash}
-use Rattle.sial_meaning.proofs.PairLemmas.{never, first-holds, second-holds, both-hold, class-is, class-self, At, at-self, place-at, place-from, only, pairs-head, pairs-tail}
+use Rattle.sial_meaning.proofs.PairLemmas.{never, first-holds, second-holds, both-hold, class-is, class-self, At, place-at, place-from, pairs-head, pairs-tail}
+use Rattle.sial_meaning.proofs.CountLemmas.{at-self, only}
 use Rattle.sial_meaning.proofs.RefusalLemmas.{stands-by, all-middle}
 
 -- an access at a place

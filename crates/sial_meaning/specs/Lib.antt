@@ -26,3 +26,4 @@ pub mod WorkedParts
 pub mod WorkedCalls
 pub mod WorkedTraps
 pub mod MarkLaws
+pub mod WorkedUnset

@@ -2,7 +2,8 @@
 
 ghost use Rattle.sial_meaning.specs.WorkedCalls.{GivenRuns, NestedRuns, RoomsRuns, WheresRuns};
 ghost use Rattle.sial_meaning.specs.WorkedParts.{FormsRuns, PartsRuns};
-ghost use Rattle.sial_meaning.specs.WorkedTraps.{AllocatedTwiceRuns, DeletedPutRuns, DeletedTwiceRuns, InsertedRuns, KeptRuns, MissingRuns, NotAllocatedRuns, OtherBlockRuns, PrivateRuns, UnsetAfterRuns};
+ghost use Rattle.sial_meaning.specs.WorkedTraps.{AllocatedTwiceRuns, DeletedPutRuns, DeletedTwiceRuns, MissingRuns, NotAllocatedRuns};
+ghost use Rattle.sial_meaning.specs.WorkedUnset.{InsertedRuns, KeptRuns, OtherBlockRuns, PrivateRuns, UnsetAfterRuns};
 
 /// What each program comes to: its end, its lines, its accesses and epochs, and its first refusal.
 pub fn feature_programs()
@@ -15,11 +16,11 @@ pub fn feature_programs()
     ensures kept { KeptRuns }
     ensures other_block { OtherBlockRuns }
     ensures private { PrivateRuns }
-    ensures missing { MissingRuns }
     ensures unset_after { UnsetAfterRuns }
+    ensures inserted { InsertedRuns }
+    ensures missing { MissingRuns }
     ensures deleted_put { DeletedPutRuns }
     ensures deleted_twice { DeletedTwiceRuns }
     ensures allocated_twice { AllocatedTwiceRuns }
     ensures not_allocated { NotAllocatedRuns }
-    ensures inserted { InsertedRuns }
 {}

@@ -1,6 +1,7 @@
 use Rattle.sial_meaning.proofs.WorkedPartsRuns.{parts-runs, forms-runs}
 use Rattle.sial_meaning.proofs.WorkedCallsRuns.{nested-runs, wheres-runs, rooms-runs, given-runs}
-use Rattle.sial_meaning.proofs.WorkedTrapsRuns.{kept-runs, other-block-runs, private-runs, missing-runs, unset-after-runs, deleted-put-runs, deleted-twice-runs, allocated-twice-runs, not-allocated-runs, inserted-runs}
+use Rattle.sial_meaning.proofs.WorkedUnsetRuns.{kept-runs, other-block-runs, private-runs, unset-after-runs, inserted-runs}
+use Rattle.sial_meaning.proofs.WorkedTrapsRuns.{missing-runs, deleted-put-runs, deleted-twice-runs, allocated-twice-runs, not-allocated-runs}
 use Rattle.sial_meaning.proofs.features.feature_programs.Goals as goal
 
 pub returns : goal.returns
@@ -14,11 +15,11 @@ returns c = record {
   kept = kept-runs;
   other_block = other-block-runs;
   private = private-runs;
-  missing = missing-runs;
   unset_after = unset-after-runs;
+  inserted = inserted-runs;
+  missing = missing-runs;
   deleted_put = deleted-put-runs;
   deleted_twice = deleted-twice-runs;
   allocated_twice = allocated-twice-runs;
   not_allocated = not-allocated-runs;
-  inserted = inserted-runs;
 }
