@@ -17,3 +17,4 @@ pub mod WorkedCallsRuns
 pub mod WorkedTrapsRuns
 pub mod MarkLemmas
 pub mod WorkedUnsetRuns
+pub mod EpochOrderLemmas

@@ -2,7 +2,11 @@
 use Rattle.std.specs.Prelude.{◌≡◌, ℕ, ◌≤◌, List, [], ◌∷◌, ◌==◌, ◌&&◌, if◌then◌else◌, Option, Some, None, AllPairs, IsTrue}
 use Rattle.sial_syntax.specs.declared.access.Class.{Class}
 use Rattle.sial_meaning.specs.Access.{Touch, Found, Mark, same_class, first_clash, clash_of, mark_after}
+use Rattle.sial_meaning.specs.Accepted.{log_of}
 use Rattle.sial_meaning.specs.declared.clash.Clash.{Clash}
+use Rattle.sial_meaning.specs.Meaning.{meaning, sequential}
+use Rattle.sial_meaning.specs.Setting.{Setting}
+use Rattle.sial_meaning.specs.Statement.{Reading}
 
 -- the mark of each block of each class
 abbrev pub Marks : Type 0
@@ -34,3 +38,11 @@ NeverFalls earlier later = IsTrue (same_class earlier.class later.class) → ear
 -- where the epochs of each class never fall, the marks find the first access that may not stand together with an earlier one, and name the same clash
 abbrev pub MarksFindFirstClash : Type 0
 MarksFindFirstClash = (log : List Touch) → AllPairs NeverFalls log → marks_find no_marks log ≡ first_clash [] log
+
+-- the log of a program is such a log, whichever blocks its reads see
+abbrev pub EpochsNeverFall : Type 0
+EpochsNeverFall = (reading : Reading) (g : Setting) → AllPairs NeverFalls (log_of (meaning reading g))
+
+-- so the marks find the first clash of each program
+abbrev pub MarksFindClashOfProgram : Type 0
+MarksFindClashOfProgram = (g : Setting) → marks_find no_marks (log_of (sequential g)) ≡ first_clash [] (log_of (sequential g))
