@@ -12,6 +12,8 @@ pub mod Rest
 pub mod Accepted
 pub mod Costs
 pub mod Course
+pub mod Laws
+pub mod EpochLaws
 pub mod Runs
 pub mod WorkedFirst
 pub mod WorkedSmall

@@ -10,6 +10,8 @@ pub mod laws;
 mod operand;
 mod program;
 mod statement;
+#[cfg(test)]
+mod tests;
 mod text;
 mod tuple;
 

@@ -1,8 +1,9 @@
 //! Runs of the top call over files and sinks in memory: their status, their lines and what they wrote.
 
 use sip_driver::sip;
-use sip_files::{Call, MemoryFiles, MemorySink};
+use sip_files::{Call, MemoryFiles, MemorySink, OutOfMemory};
 use std::alloc::{AllocError, Global};
+use std::process::Abort;
 use std::test::Fail;
 
 const PROGRAM: &[u8] =
@@ -13,113 +14,42 @@ const SPACED: &[u8] =
 
 const INPUT: &[u8] = b"segments ao 2 1\n";
 
-// A call, and what it is to give.
-#[derive(Clone, Copy)]
-struct Case {
-    words: &'static [&'static str],
-    program: &'static [u8],
-    failing_load: Option<u64>,
-    failing_write: Option<u64>,
-    status: u8,
-    out: &'static [u8],
-    err: &'static [u8],
+// The files and the output of a call, with the faults that are planned.
+#[derive(Drop)]
+struct Outside {
+    files: MemoryFiles,
+    out: MemorySink,
 }
 
 const FIRST: &[&str] = &["sip", "run", "first.sial", "first.in"];
 
-#[test]
-fn each_call_ends_with_its_status_and_its_lines(rt: HostRuntime) -> Result<(), Fail> {
-    for case in [
-        Case {
-            words: FIRST,
-            program: PROGRAM,
-            failing_load: None,
-            failing_write: None,
-            status: 0,
-            out: b"s 72\ns 36\n",
-            err: b"",
-        },
-        Case {
-            words: &["sip", "run", "none.sial", "first.in"],
-            program: PROGRAM,
-            failing_load: None,
-            failing_write: None,
-            status: 2,
-            out: b"",
-            err: b"sip: read none.sial\n",
-        },
-        Case {
-            words: FIRST,
-            program: PROGRAM,
-            failing_load: Some(2),
-            failing_write: None,
-            status: 2,
-            out: b"",
-            err: b"sip: read first.in\n",
-        },
-        Case {
-            words: &["sip", "run", "first.sial"],
-            program: PROGRAM,
-            failing_load: None,
-            failing_write: None,
-            status: 1,
-            out: b"",
-            err: b"sip: usage\n",
-        },
-        Case {
-            words: &["sip", "check", "first.sial", "first.in"],
-            program: PROGRAM,
-            failing_load: None,
-            failing_write: None,
-            status: 1,
-            out: b"",
-            err: b"sip: usage\n",
-        },
-        Case {
-            words: FIRST,
-            program: SPACED,
-            failing_load: None,
-            failing_write: None,
-            status: 3,
-            out: b"",
-            err: b"sip: syntax line 0: FirstPath\n",
-        },
-        Case {
-            words: FIRST,
-            program: PROGRAM,
-            failing_load: None,
-            failing_write: Some(1),
-            status: 10,
-            out: b"",
-            err: b"sip: write output\n",
-        },
-        Case {
-            words: FIRST,
-            program: PROGRAM,
-            failing_load: None,
-            failing_write: Some(7),
-            status: 10,
-            out: b"s 72\ns ",
-            err: b"sip: write output\n",
-        },
-    ] {
-        let mut files = MemoryFiles::new(rt.alloc());
-        files.put("first.sial", case.program)?;
-        files.put("first.in", INPUT)?;
-        if let Some(nth) = case.failing_load {
-            files.fail(Call::Load, nth)?;
-        }
-        let mut out = MemorySink::new(rt.alloc());
-        if let Some(nth) = case.failing_write {
-            out.fail_at(nth)?;
-        }
-        let mut err = MemorySink::new(rt.alloc());
-        let words = owned(rt.alloc(), case.words)?;
-        let status = sip(rt.alloc(), &words, &mut files, &mut out, &mut err);
-        assert_eq!(rt; status.0, case.status);
-        assert_eq!(rt; out.bytes(), case.out);
-        assert_eq!(rt; err.bytes(), case.err);
-    }
+// A program and the input of `first`, and nothing planned.
+fn files_with(alloc: Global, program: &[u8]) -> Result<Outside, OutOfMemory> {
+    let mut files = MemoryFiles::new(alloc);
+    files.put("first.sial", program)?;
+    files.put("first.in", INPUT)?;
+    Ok(Outside {
+        files,
+        out: MemorySink::new(alloc),
+    })
+}
+
+// Calls `sip` with these words, and compares its status, its output and its line.
+fn expect(
+    rt: &impl Abort,
+    alloc: Global,
+    words: &[&str],
+    mut at: Outside,
+    status: u8,
+    out: &[u8],
+    line: &[u8],
+) -> Result<(), AllocError> {
+    let mut err = MemorySink::new(alloc);
+    let words = owned(alloc, words)?;
+    let answer = sip(alloc, &words, &mut at.files, &mut at.out, &mut err);
+    assert_eq!(rt; answer.0, status);
+    assert_eq!(rt; at.out.bytes(), out);
+    assert_eq!(rt; err.bytes(), line);
     Ok(())
 }
 
@@ -129,4 +59,52 @@ fn owned(alloc: Global, words: &[&str]) -> Result<Vec<String>, AllocError> {
         all.push(String::from_str(alloc, word)?)?;
     }
     Ok(all)
+}
+
+#[test]
+fn the_first_program_prints_its_two_lines(rt: HostRuntime) -> Result<(), Fail> {
+    let at = files_with(rt.alloc(), PROGRAM)?;
+    expect(&rt, rt.alloc(), FIRST, at, 0, b"s 72\ns 36\n", b"")?;
+    Ok(())
+}
+
+#[test]
+fn other_words_are_usage(rt: HostRuntime) -> Result<(), Fail> {
+    for words in [
+        ["sip", "run", "first.sial"].as_slice(),
+        ["sip", "check", "first.sial", "first.in"].as_slice(),
+    ] {
+        let at = files_with(rt.alloc(), PROGRAM)?;
+        expect(&rt, rt.alloc(), words, at, 1, b"", b"sip: usage\n")?;
+    }
+    Ok(())
+}
+
+#[test]
+fn a_missing_program_and_a_failing_load_are_named(rt: HostRuntime) -> Result<(), Fail> {
+    let at = files_with(rt.alloc(), PROGRAM)?;
+    let words = ["sip", "run", "none.sial", "first.in"].as_slice();
+    expect(&rt, rt.alloc(), words, at, 2, b"", b"sip: read none.sial\n")?;
+    let mut at = files_with(rt.alloc(), PROGRAM)?;
+    at.files.fail(Call::Load, 2)?;
+    expect(&rt, rt.alloc(), FIRST, at, 2, b"", b"sip: read first.in\n")?;
+    Ok(())
+}
+
+#[test]
+fn two_spaces_where_one_is_wanted_are_refused(rt: HostRuntime) -> Result<(), Fail> {
+    let at = files_with(rt.alloc(), SPACED)?;
+    let line = b"sip: syntax line 0: FirstPath\n";
+    expect(&rt, rt.alloc(), FIRST, at, 3, b"", line)?;
+    Ok(())
+}
+
+#[test]
+fn a_failing_write_leaves_the_lines_before_it(rt: HostRuntime) -> Result<(), Fail> {
+    for (nth, out) in [(1, b"".as_slice()), (7, b"s 72\ns ".as_slice())] {
+        let mut at = files_with(rt.alloc(), PROGRAM)?;
+        at.out.fail_at(nth)?;
+        expect(&rt, rt.alloc(), FIRST, at, 10, out, b"sip: write output\n")?;
+    }
+    Ok(())
 }

@@ -27,17 +27,17 @@ abbrev pub one : (index : ℕ) → Extent → List ℕ → Sight
 one index extent words = record { at = index ∷ []; extents = extent ∷ []; words = words }
 
 -- the position of an index that was given one
-pub position-one : (spaces : Spaces) (index p : ℕ) → position spaces (index ∷ []) ((index, p) ∷ []) index ≡ p
-position-one spaces index p =
+pub position-one : (spaces : Spaces) (own : List ℕ) (index p : ℕ) → position spaces own ((index, p) ∷ []) index ≡ p
+position-one spaces own index p =
     ap
-    (λ b. itself_or (cond b (Some (index, p)) None) (find (λ (q : ℕ × ℕ). stands_for spaces (index ∷ []) index q.0) ((index, p) ∷ [])))
+    (λ b. itself_or (cond b (Some (index, p)) None) (find (λ (q : ℕ × ℕ). stands_for spaces own index q.0) ((index, p) ∷ [])))
     (same-self index)
 
 -- the element of a block with one index at a position of that index
 pub element-one : (spaces : Spaces) (index : ℕ) (e : Extent) (words : List ℕ) (k : ℕ) → k < e.len → element spaces ((index, e.start + k) ∷ []) (one index e words) ≡ Some (slice_index_or words k 0)
 element-one spaces index e words k within =
     let at : ((e.start + k) - e.start) * 1 + 0 ≡ k = omega arith in
-    ap (λ p. cond (lies_on e p && true) (Some (slice_index_or words ((p - e.start) * 1 + 0) 0)) None) (position-one spaces index (e.start + k))
+    ap (λ p. cond (lies_on e p && true) (Some (slice_index_or words ((p - e.start) * 1 + 0) 0)) None) (position-one spaces (index ∷ []) index (e.start + k))
     ∙ (ap (λ b. cond (b && true) (Some (slice_index_or words (((e.start + k) - e.start) * 1 + 0) 0)) None) (lies-within e k within)
     ∙ ap (λ n. Some (slice_index_or words n 0)) at)
 

@@ -12,3 +12,16 @@ mod StartLaws
 mod StatementsLemmas
 mod TopLemmas
 mod WroteLemmas
+mod ReadingLemmas
+mod NumeralLemmas
+mod PlaceLemmas
+mod FewLemmas
+mod SoundLemmas
+mod FurtherLemmas
+mod CutLemmas
+mod LineLemmas
+mod FirstLemmas
+mod TextLemmas
+mod TreeLemmas
+mod InputLemmas
+mod RunsLemmas

@@ -5,3 +5,9 @@ pub mod Built
 pub mod Profile
 pub mod Running
 pub mod Ran
+pub mod Reading
+pub mod LineSeen
+pub mod BuildingSeen
+pub mod Declaring
+pub mod Stating
+pub mod InputSeen

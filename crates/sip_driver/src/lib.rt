@@ -4,11 +4,21 @@
 mod answer;
 mod assign;
 mod blocks;
+mod building;
+mod cut;
+mod declarations;
 mod fault;
 mod first;
+mod input_text;
+mod line;
+mod lines;
+mod loops;
+mod names;
 mod numbers;
+mod numerals;
 mod perform;
 mod print;
+mod program_text;
 mod reader;
 mod run;
 mod say;
@@ -16,6 +26,8 @@ mod segments;
 mod start;
 mod statements;
 mod status;
+#[cfg(test)]
+mod tests;
 mod top;
 mod words;
 

@@ -1,0 +1,129 @@
+-- What the rules give of the statements of a proper program.
+use Rattle.std.proofs.Common.{◌≡◌, ℕ, zero, suc, List, [], ◌∷◌, ◌++◌, map, filter, flat_map, Bool, true, false, cond, ◌&&◌, ◌||◌, nat_le, None, slice_index_or, refl, sym, ◌∙◌, IsTrue}
+use Rattle.std.specs.List.{list_all}
+use Rattle.std.proofs.lemmas.List.Elements.{filter-append}
+use Rattle.sial_syntax.specs.Agreeing.{contains, share_any, has_twice}
+use Rattle.sial_syntax.specs.Limits.{most_nesting}
+use Rattle.sial_syntax.specs.Parts.{indices_bound}
+use Rattle.sial_syntax.specs.Proper.{IsProper, proper_body, proper_depth, proper_procedure, body_nesting}
+use Rattle.sial_syntax.specs.Names.{is_name}
+use Rattle.sial_syntax.specs.Shapes.{Fault, first_fault, broken_at, shape_faults, declarations_broken, breaks_unbound, breaks_rebound, breaks_repeated, breaks_kind, breaks_indices, breaks_writable}
+use Rattle.sial_syntax.specs.SideRules.{IsGranted}
+use Rattle.sial_syntax.specs.Tree.{Tree, Procedure, Block, End}
+use Rattle.sial_syntax.specs.Visits.{Visit, visits, body_visits, all_visits}
+use Rattle.sial_meaning.specs.Setting.{Setting, procedure_body}
+
+-- no index that is bound is bound again at any of these statements
+abbrev pub Unbroken : Tree → List Visit → Type 0
+Unbroken p all = filter (breaks_rebound p) all ≡ []
+
+-- statements whose parts are there, and that bind no bound index again
+pub record Sound (p : Tree) (bound : List ℕ) (within : Bool) (body : Block) : Type 0 where
+  pub proper : IsTrue (proper_body p body)
+  pub unbroken : Unbroken p (visits bound within body)
+
+-- both of two tests
+pub both : (a b : Bool) → (a && b) ≡ true → (a ≡ true) × (b ≡ true)
+both true b e = (refl, e)
+both false b e = absurd cc
+
+-- neither of two tests
+pub neither : (a b : Bool) → (a || b) ≡ false → (a ≡ false) × (b ≡ false)
+neither true b e = absurd cc
+neither false b e = (refl, e)
+
+-- no list is empty that has others before or behind it
+append_none : {X : Type 0} (xs ys : List X) → xs ++ ys ≡ [] → (xs ≡ []) × (ys ≡ [])
+append_none [] ys e = (refl, e)
+append_none (x ∷ xs) ys e = absurd cc
+
+-- no list is empty whose image has entries
+map_none : {X Y : Type 0} (f : X → Y) (xs : List X) → map f xs ≡ [] → xs ≡ []
+map_none f [] e = refl
+map_none f (x ∷ xs) e = absurd cc
+
+-- an entry that is left out
+kept_none : {X : Type 0} (b : Bool) (x : X) (xs : List X) → cond b (x ∷ xs) xs ≡ [] → (b ≡ false) × (xs ≡ [])
+kept_none true x xs e = absurd cc
+kept_none false x xs e = (refl, e)
+
+-- the first statement and the others
+pub unbroken_cons : (p : Tree) (v : Visit) (vs : List Visit) → Unbroken p (v ∷ vs) → (breaks_rebound p v ≡ false) × Unbroken p vs
+unbroken_cons p v vs e = kept_none (breaks_rebound p v) v (filter (breaks_rebound p) vs) e
+
+-- some statements and others
+pub unbroken_append : (p : Tree) (xs ys : List Visit) → Unbroken p (xs ++ ys) → Unbroken p xs × Unbroken p ys
+unbroken_append p xs ys e =
+    append_none (filter (breaks_rebound p) xs) (filter (breaks_rebound p) ys) (sym (filter-append (breaks_rebound p) xs ys) ∙ e)
+
+-- a statement binds no index that is bound
+pub unbound_there : (p : Tree) (v : Visit) → breaks_rebound p v ≡ false → share_any (indices_bound v.form) v.bound ≡ false
+unbound_there p v e = (neither (share_any (indices_bound v.form) v.bound) (has_twice (indices_bound v.form)) e).0
+
+-- one index of those
+pub unbound_one : (bound : List ℕ) (index : ℕ) (indices : List ℕ) → share_any (index ∷ indices) bound ≡ false → (contains bound index ≡ false) × (share_any indices bound ≡ false)
+unbound_one bound index indices e = neither (contains bound index) (share_any indices bound) e
+
+-- no first fault is no fault
+fault_none : (faults : List Fault) → first_fault faults ≡ None → faults ≡ []
+fault_none [] e = refl
+fault_none (f ∷ fs) e = absurd cc
+
+-- a granted program binds no bound index again
+pub granted_unbroken : (p : Tree) → IsGranted p → Unbroken p (all_visits p)
+granted_unbroken p granted =
+    let a = broken_at 1 (breaks_unbound p) (all_visits p) in
+    let b = a ++ broken_at 2 (breaks_rebound p) (all_visits p) in
+    let c = b ++ broken_at 3 (breaks_repeated p) (all_visits p) in
+    let d = c ++ declarations_broken p in
+    let e = d ++ broken_at 4 (breaks_kind p) (all_visits p) in
+    let f = e ++ broken_at 5 (breaks_indices p) (all_visits p) in
+    let to_f = (append_none f (broken_at 6 (breaks_writable p) (all_visits p)) (fault_none (shape_faults p) granted.shapes)).0 in
+    let to_e = (append_none e (broken_at 5 (breaks_indices p) (all_visits p)) to_f).0 in
+    let to_d = (append_none d (broken_at 4 (breaks_kind p) (all_visits p)) to_e).0 in
+    let to_c = (append_none c (declarations_broken p) to_d).0 in
+    let to_b = (append_none b (broken_at 3 (breaks_repeated p) (all_visits p)) to_c).0 in
+    let second = (append_none a (broken_at 2 (breaks_rebound p) (all_visits p)) to_b).1 in
+    map_none (λ (v : Visit). record { line = v.line; rule = 2 }) (filter (breaks_rebound p) (all_visits p)) second
+
+-- what stands for a procedure that isn't there
+abbrev no_procedure : Procedure
+no_procedure = record { name = []; body = End }
+
+-- each procedure's statements are among all
+procedure_unbroken : (p : Tree) (procedures : List Procedure) (number : ℕ) → Unbroken p (flat_map (λ (q : Procedure). body_visits q.body) procedures) → Unbroken p (body_visits (slice_index_or procedures number no_procedure).body)
+procedure_unbroken p [] number e = refl
+procedure_unbroken p (q ∷ qs) zero e = (unbroken_append p (body_visits q.body) (flat_map (λ (r : Procedure). body_visits r.body) qs) e).0
+procedure_unbroken p (q ∷ qs) (suc n) e = procedure_unbroken p qs n (unbroken_append p (body_visits q.body) (flat_map (λ (r : Procedure). body_visits r.body) qs) e).1
+
+-- so are its parts
+pub procedure_proper : (p : Tree) (procedures : List Procedure) (number : ℕ) → IsTrue (list_all (proper_procedure p) procedures) → IsTrue (proper_body p (slice_index_or procedures number no_procedure).body)
+procedure_proper p [] number e = refl
+procedure_proper p (q ∷ qs) zero e =
+    let named = both (proper_procedure p q) (list_all (proper_procedure p) qs) e in
+    let deep = both (is_name q.name) (proper_depth p q.body) named.0 in
+    (both (proper_body p q.body) (nat_le (body_nesting q.body) most_nesting) deep.1).0
+procedure_proper p (q ∷ qs) (suc n) e = procedure_proper p qs n (both (proper_procedure p q) (list_all (proper_procedure p) qs) e).1
+
+-- the parts of the program's own statements are there
+pub body_proper : (p : Tree) → IsProper p → IsTrue (proper_body p p.body)
+body_proper p proper = (both (proper_body p p.body) (nat_le (body_nesting p.body) most_nesting) proper.body).0
+
+-- the program's own statements
+pub body_sound : (p : Tree) → IsProper p → IsGranted p → Sound p [] false p.body
+body_sound p proper granted = record {
+  proper = body_proper p proper;
+  unbroken = (unbroken_append p (body_visits p.body) (flat_map (λ (q : Procedure). body_visits q.body) p.procedures) (granted_unbroken p granted)).0;
+}
+
+-- a procedure's statements
+pub procedure_sound : (g : Setting) → IsProper g.program → IsGranted g.program → (procedure : ℕ) → Sound g.program [] false (procedure_body g procedure)
+procedure_sound g proper granted procedure = record {
+  proper = procedure_proper g.program g.program.procedures procedure proper.procedures;
+  unbroken =
+      procedure_unbroken
+      g.program
+      g.program.procedures
+      procedure
+      (unbroken_append g.program (body_visits g.program.body) (flat_map (λ (q : Procedure). body_visits q.body) g.program.procedures) (granted_unbroken g.program granted)).1;
+}

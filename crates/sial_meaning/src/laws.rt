@@ -1,0 +1,7 @@
+//! Laws of the meaning that proofs above cite, with nothing to run.
+
+mod epochs;
+mod rest;
+
+pub use epochs::epochs_agree_up_to_the_first_refusal;
+pub use rest::steps_reach_the_fold;
