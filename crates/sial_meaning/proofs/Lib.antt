@@ -17,7 +17,14 @@ pub mod WorkedPardosRuns
 pub mod WorkedServedRuns
 pub mod WorkedRulesAre
 pub mod PairLemmas
+pub mod CountLemmas
 pub mod RefusalLemmas
 pub mod PlaceLemmas
 pub mod PositionLemmas
 pub mod ReadBackLemmas
+pub mod WorkedPartsRuns
+pub mod WorkedCallsRuns
+pub mod WorkedTrapsRuns
+pub mod MarkLemmas
+pub mod WorkedUnsetRuns
+pub mod EpochOrderLemmas

@@ -16,7 +16,7 @@ use Rattle.sial_meaning.specs.Meaning.{sequential}
 use Rattle.sial_meaning.proofs.PairLemmas.{never, pairs-head, pairs-tail}
 
 -- an access that doesn't clash with an earlier one may stand with it
-stands-by : (a b : Bool) → (a && not b) ≡ false → a ≡ true → b ≡ true
+pub stands-by : (a b : Bool) → (a && not b) ≡ false → a ≡ true → b ≡ true
 stands-by true true apart same = refl
 stands-by true false apart same = absurd (never (sym apart))
 stands-by false b apart same = absurd (never same)
@@ -36,7 +36,7 @@ none-step true f rest fails none = absurd (never (sym fails))
 none-step false f rest fails none = none
 
 -- an element in the middle
-all-middle : {X : Type 0} (P : X → Type 0) (xs : List X) (y : X) (ys : List X) → All P (xs ++ y ∷ ys) → P y
+pub all-middle : {X : Type 0} (P : X → Type 0) (xs : List X) (y : X) (ys : List X) → All P (xs ++ y ∷ ys) → P y
 all-middle P [] y ys all = All-head P y ys all
 all-middle P (x ∷ xs) y ys all = all-middle P xs y ys (All-tail P x (xs ++ y ∷ ys) all)
 

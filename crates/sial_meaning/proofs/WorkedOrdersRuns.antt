@@ -11,7 +11,7 @@ use Rattle.sial_syntax.specs.declared.access.Access.TheVariants as access
 use Rattle.sial_syntax.specs.declared.access.Class.TheVariants as class
 use Rattle.sial_meaning.specs.declared.trap.TrapKind.TheVariants as trap
 use Rattle.sial_meaning.specs.Accepted.{Clashed, Trapped}
-use Rattle.sial_meaning.specs.WorkedOrders.{order, OrderRuns, order_final, order_open, OrderOpenRuns, order_open_final, order_served, OrderServedRuns, order_served_final, gone, GoneRuns, gone_final, again, AgainRuns, again_final, twice, TwiceRuns, twice_final, turns, TurnsRuns, turns_final}
+use Rattle.sial_meaning.specs.WorkedOrders.{order, OrderRuns, order_final, order_open, OrderOpenRuns, order_open_final, order_served, OrderServedRuns, order_served_final, gone, GoneRuns, gone_final, again, AgainRuns, again_final, twice, TwiceRuns, twice_final}
 
 order-shapes : shape_fault order.program ≡ None
 order-shapes = refl
@@ -102,18 +102,3 @@ twice-refusal = refl
 
 pub twice-runs : TwiceRuns
 twice-runs = record { shapes = twice-shapes; sides = twice-sides; classes = refl; locals = refl; ends = twice-ends; refused = twice-refusal }
-
-turns-shapes : shape_fault turns.program ≡ None
-turns-shapes = refl
-
-turns-sides : side_fault turns.program ≡ None
-turns-sides = refl
-
-turns-ends : final_of (sequential turns) ≡ turns_final
-turns-ends = refl
-
-turns-refusal : first_refusal turns ≡ None
-turns-refusal = refl
-
-pub turns-runs : TurnsRuns
-turns-runs = record { shapes = turns-shapes; sides = turns-sides; classes = refl; locals = refl; ends = turns-ends; refused = turns-refusal }

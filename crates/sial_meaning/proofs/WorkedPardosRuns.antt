@@ -1,4 +1,4 @@
--- Runs of worked programs: pardos and declarations.
+-- Runs of worked programs: pardos, declarations and arrays one after the other.
 use Rattle.std.proofs.Common.{◌≡◌, refl}
 use Rattle.std.specs.Prelude.{None}
 use Rattle.sial_syntax.specs.Shapes.{shape_fault}
@@ -6,7 +6,22 @@ use Rattle.sial_syntax.specs.SideRules.{side_fault}
 use Rattle.sial_meaning.specs.Accepted.{first_refusal}
 use Rattle.sial_meaning.specs.Meaning.{sequential}
 use Rattle.sial_meaning.specs.Runs.{final_of}
-use Rattle.sial_meaning.specs.WorkedPardos.{chunks, ChunksRuns, chunks_final, chunks_three, ChunksThreeRuns, chunks_three_final, chunks_none, ChunksNoneRuns, chunks_none_final, tight, TightRuns, tight_final, shape, ShapeRuns, shape_final}
+use Rattle.sial_meaning.specs.WorkedPardos.{turns, TurnsRuns, turns_final, chunks, ChunksRuns, chunks_final, chunks_three, ChunksThreeRuns, chunks_three_final, chunks_none, ChunksNoneRuns, chunks_none_final, tight, TightRuns, tight_final, shape, ShapeRuns, shape_final}
+
+turns-shapes : shape_fault turns.program ≡ None
+turns-shapes = refl
+
+turns-sides : side_fault turns.program ≡ None
+turns-sides = refl
+
+turns-ends : final_of (sequential turns) ≡ turns_final
+turns-ends = refl
+
+turns-refusal : first_refusal turns ≡ None
+turns-refusal = refl
+
+pub turns-runs : TurnsRuns
+turns-runs = record { shapes = turns-shapes; sides = turns-sides; classes = refl; locals = refl; ends = turns-ends; refused = turns-refusal }
 
 chunks-shapes : shape_fault chunks.program ≡ None
 chunks-shapes = refl

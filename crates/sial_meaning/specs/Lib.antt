@@ -24,3 +24,8 @@ pub mod WorkedServed
 pub mod WorkedRules
 pub mod AcceptedLaws
 pub mod ReadBackLaws
+pub mod WorkedParts
+pub mod WorkedCalls
+pub mod WorkedTraps
+pub mod MarkLaws
+pub mod WorkedUnset

@@ -55,3 +55,7 @@ whole_segments lengths = record { segments = lengths; piece = 0 }
 -- spaces with segments of atomic and of molecular orbitals
 abbrev pub spaces_of : (ao mo : List ℕ) → List Span → Spaces
 spaces_of ao mo spans = record { ao = whole_segments ao; mo = whole_segments mo; moa = whole_segments []; mob = whole_segments []; spans = spans }
+
+-- spaces with segments of molecular orbitals, cut into pieces of this length
+abbrev pub cut_spaces : (mo : List ℕ) → (piece : ℕ) → List Span → Spaces
+cut_spaces mo piece spans = record { ao = whole_segments []; mo = record { segments = mo; piece = piece }; moa = whole_segments []; mob = whole_segments []; spans = spans }

@@ -1,4 +1,4 @@
--- Worked programs: pardos and declarations.
+-- Worked programs: pardos, declarations and arrays one after the other.
 use Rattle.std.specs.Prelude.{[], ◌∷◌, codes, Some, None}
 use Rattle.sial_syntax.specs.declared.array.ArrayKind.TheVariants as array
 use Rattle.sial_syntax.specs.declared.classes.ScalarClass.TheVariants as scalar
@@ -12,10 +12,45 @@ use Rattle.sial_syntax.specs.declared.operand.Operand.TheVariants as operand
 use Rattle.sial_syntax.specs.declared.operand.Right.TheVariants.{Two}
 use Rattle.sial_syntax.specs.declared.operand.Target.TheVariants as target
 use Rattle.sial_syntax.specs.Spaces.{Segments}
-use Rattle.sial_syntax.specs.Tree.{End, Then, Do, Pardo, Assign, Get, Create, PrintScalar}
+use Rattle.sial_syntax.specs.Tree.{End, Then, Do, Pardo, Assign, Get, Create, Delete, PrintScalar}
 use Rattle.sial_meaning.specs.LocalStep.{scalar_line}
 use Rattle.sial_meaning.specs.Runs.{Final, Run, spaces_of}
 use Rattle.sial_meaning.specs.Setting.{Setting}
+
+-- two arrays, one after the other
+abbrev pub turns : Setting
+turns = record {
+  program = record {
+    name = codes "turns";
+    indices = record { name = codes "i"; line = 2; range = range.Segments kind.Index (bound.Number 1) (bound.Number 8) } ∷ [];
+    arrays = record { name = codes "x"; line = 3; kind = array.Distributed; dims = 0 ∷ [] } ∷ record { name = codes "y"; line = 4; kind = array.Distributed; dims = 0 ∷ [] } ∷ [];
+    scalars = [];
+    procedures = [];
+    body = Then 5 (Create 0) (Then 6 (Delete 0) (Then 7 (Create 1) (Then 8 (Delete 1) End)));
+  };
+  scalars = [];
+  sides = side.Unused ∷ side.Unused ∷ [];
+  spaces = spaces_of [] [] (Segments kind.Index 1 8 ∷ []);
+  numbers = [];
+  blocks = [];
+}
+
+-- where it ends
+abbrev pub turns_final : Final
+turns_final = record {
+  scalars = [];
+  partials = [];
+  statics = [] ∷ [] ∷ [];
+  distributed = [] ∷ [] ∷ [] ∷ [] ∷ [] ∷ [] ∷ [] ∷ [] ∷ [] ∷ [] ∷ [] ∷ [] ∷ [] ∷ [] ∷ [] ∷ [] ∷ [];
+  served = [];
+  epochs = record { distributed = 5; served = 1 };
+  accesses = 0;
+  lines = [];
+}
+
+-- how it runs
+abbrev pub TurnsRuns : Type 0
+TurnsRuns = Run turns turns_final None
 
 -- a pardo with nothing inside
 abbrev pub chunks : Setting

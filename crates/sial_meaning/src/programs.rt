@@ -2,8 +2,8 @@
 
 ghost use Rattle.sial_meaning.specs.WorkedClashes.{ApartRuns, ClashAddRuns, ClashMaxRuns, ClashRuns, MixRuns};
 ghost use Rattle.sial_meaning.specs.WorkedFirst.{BarrierRuns, FirstRuns, PlainRuns, WrapRuns};
-ghost use Rattle.sial_meaning.specs.WorkedOrders.{AgainRuns, GoneRuns, OrderOpenRuns, OrderRuns, OrderServedRuns, TurnsRuns, TwiceRuns};
-ghost use Rattle.sial_meaning.specs.WorkedPardos.{ChunksNoneRuns, ChunksRuns, ChunksThreeRuns, ShapeRuns, TightRuns};
+ghost use Rattle.sial_meaning.specs.WorkedOrders.{AgainRuns, GoneRuns, OrderOpenRuns, OrderRuns, OrderServedRuns, TwiceRuns};
+ghost use Rattle.sial_meaning.specs.WorkedPardos.{ChunksNoneRuns, ChunksRuns, ChunksThreeRuns, ShapeRuns, TightRuns, TurnsRuns};
 ghost use Rattle.sial_meaning.specs.WorkedRules.{PartIsRefused, SmallIsProper};
 ghost use Rattle.sial_meaning.specs.WorkedServed.{DiskRuns, TopRuns};
 ghost use Rattle.sial_meaning.specs.WorkedSmall.{SmallRuns};

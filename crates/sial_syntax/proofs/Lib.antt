@@ -1,3 +1,4 @@
 pub mod TreeLemmas
 pub mod BoxLemmas
 pub mod RankLemmas
+pub mod FaultyPrograms

@@ -12,3 +12,5 @@ pub mod Shapes
 pub mod Sides
 pub mod SideRules
 pub mod BoxLaws
+pub mod FaultyShapes
+pub mod FaultySides

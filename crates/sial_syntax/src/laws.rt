@@ -1,6 +1,8 @@
-//! What the definitions of boxes say together: laws that proofs above cite, with nothing to run.
+//! What the definitions of boxes and of faults say: laws that proofs above cite, with nothing to run.
 
 ghost use Rattle.sial_syntax.specs.BoxLaws.{NumbersOfRank, NumbersWithin, PlaceOfTuple, PlaceWithin, RankOfNumbers, RankWithin, TupleOfPlace, TuplesCounted, TuplesInOrder, TupleWithin};
+ghost use Rattle.sial_syntax.specs.FaultyShapes.{ShapeFaultsFound};
+ghost use Rattle.sial_syntax.specs.FaultySides.{SideFaultsFound};
 
 /// The place of a tuple in its box, and the tuple at a place.
 pub fn places_and_tuples()
@@ -22,4 +24,10 @@ pub fn ranks_and_numbers()
     ensures numbers { NumbersOfRank }
     ensures rank_within { RankWithin }
     ensures numbers_within { NumbersWithin }
+{}
+
+/// Programs with one fault each: where it is found, and as which.
+pub fn faulty_programs()
+    ensures shapes { ShapeFaultsFound }
+    ensures sides { SideFaultsFound }
 {}

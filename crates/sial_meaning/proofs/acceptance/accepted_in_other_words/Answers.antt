@@ -1,6 +1,7 @@
-use Rattle.sial_meaning.proofs.PairLemmas.{pairs-say-counts}
+use Rattle.sial_meaning.proofs.MarkLemmas.{marks-find-first-clash}
+use Rattle.sial_meaning.proofs.CountLemmas.{pairs-say-counts}
 use Rattle.sial_meaning.proofs.RefusalLemmas.{no-refusal-says-accepted}
 use Rattle.sial_meaning.proofs.acceptance.accepted_in_other_words.Goals as goal
 
 pub returns : goal.returns
-returns c = record { counts = pairs-say-counts; refusal = no-refusal-says-accepted }
+returns c = record { counts = pairs-say-counts; refusal = no-refusal-says-accepted; marks = marks-find-first-clash }

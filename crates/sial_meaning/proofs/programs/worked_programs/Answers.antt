@@ -1,8 +1,8 @@
 use Rattle.sial_meaning.proofs.WorkedFirstRuns.{plain-runs, barrier-runs, first-runs, wrap-runs}
 use Rattle.sial_meaning.proofs.WorkedSmallRuns.{small-runs}
 use Rattle.sial_meaning.proofs.WorkedClashesRuns.{clash-runs, clash-add-runs, clash-max-runs, mix-runs, apart-runs}
-use Rattle.sial_meaning.proofs.WorkedOrdersRuns.{order-runs, order-open-runs, order-served-runs, gone-runs, again-runs, twice-runs, turns-runs}
-use Rattle.sial_meaning.proofs.WorkedPardosRuns.{chunks-runs, chunks-three-runs, chunks-none-runs, tight-runs, shape-runs}
+use Rattle.sial_meaning.proofs.WorkedOrdersRuns.{order-runs, order-open-runs, order-served-runs, gone-runs, again-runs, twice-runs}
+use Rattle.sial_meaning.proofs.WorkedPardosRuns.{turns-runs, chunks-runs, chunks-three-runs, chunks-none-runs, tight-runs, shape-runs}
 use Rattle.sial_meaning.proofs.WorkedServedRuns.{disk-runs, top-runs}
 use Rattle.sial_meaning.proofs.programs.worked_programs.Goals as goal
 
