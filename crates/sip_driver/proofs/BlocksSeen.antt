@@ -1,18 +1,17 @@
 -- Blocks of the first profile as the sequential meaning sees them: on one dimension.
-use Rattle.std.proofs.Common.{◌≡◌, ℕ, zero, suc, ◌+◌, ◌-◌, ◌*◌, ◌%◌, ◌^◌, ◌<◌, ◌≤◌, Bool, true, false, ◌&&◌, nat_eq, nat_lt, nat_le, List, [], ◌∷◌, ◌++◌, Option, Some, None, map, zip, length, replicate, slice_index_or, sum_by, sum, fold, refl, sym, ap, ◌∙◌, subst, arith, add-one, cond, ◌||◌}
+use Rattle.std.proofs.Common.{◌≡◌, ℕ, ◌+◌, ◌-◌, ◌*◌, ◌%◌, ◌^◌, ◌<◌, true, false, ◌&&◌, nat_eq, List, [], ◌∷◌, ◌++◌, Some, None, map, length, replicate, slice_index_or, sum_by, sum, fold, refl, sym, ap, ◌∙◌, arith, add-one, cond, ◌||◌}
 use Rattle.std.proofs.lemmas.Bool.Decides.{nat_tests}
 use Rattle.std.proofs.lemmas.Simd.{map-map}
-use Rattle.std.specs.Prelude.{find, filter, unwrap_or}
+use Rattle.std.specs.Prelude.{find, unwrap_or}
 use Rattle.block_math.specs.Elements.{paired, sums, dot_of}
 use Rattle.sial_syntax.specs.Boxes.{numbers_from, tuples, place_of}
 use Rattle.sial_syntax.specs.Spaces.{Spaces, Extent}
-use Rattle.sial_syntax.specs.declared.operand.Bin.TheVariants.{Times}
 use Rattle.sial_syntax.specs.declared.operand.Op.{Op}
 use Rattle.sial_syntax.specs.declared.operand.Op.TheVariants.{Set, Add}
-use Rattle.sial_meaning.specs.Number.{plus, combined}
-use Rattle.sial_meaning.specs.Right.{Term, Plain, Shown, Side, Alone, Joined, assigned, product_at, shared_dims, dim_lengths, side_at, met, both}
-use Rattle.sial_meaning.specs.Sight.{Sight, element, position, itself_or, stands_for, word_at, lies_on, places_at, lengths}
-use Rattle.sip_driver.proofs.Places.{tuples-one, map-tuples, place-one, map-from, map-same, map-read, numbers-step}
+use Rattle.sial_meaning.specs.Number.{plus}
+use Rattle.sial_meaning.specs.Right.{Plain, Shown, Side, Alone, assigned, product_at, shared_dims, dim_lengths, side_at, met, both}
+use Rattle.sial_meaning.specs.Sight.{Sight, element, position, itself_or, stands_for, word_at, lies_on, places_at}
+use Rattle.sip_driver.proofs.Places.{tuples-one, map-tuples, place-one, map-from, map-same, numbers-step}
 
 -- a number is itself
 pub same-self : (n : ℕ) → nat_eq n n ≡ true

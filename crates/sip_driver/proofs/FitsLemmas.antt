@@ -4,7 +4,7 @@ use Rattle.std.proofs.lemmas.List.{length-set, length-replicate, get_or-set_same
 use Rattle.block_math.specs.Elements.{paired, sums}
 use Rattle.sial_syntax.specs.Boxes.{numbers_from}
 use Rattle.sial_syntax.specs.Spaces.{first_of, count_of}
-use Rattle.sial_syntax.specs.Tree.{Block, End, Then, Plain, Do, Assign, PrintScalar}
+use Rattle.sial_syntax.specs.Tree.{Block, End, Then, Plain, Do, Assign}
 use Rattle.sial_syntax.specs.declared.operand.Bin.TheVariants.{Times}
 use Rattle.sial_syntax.specs.declared.operand.BlockRef.{BlockRef}
 use Rattle.sial_syntax.specs.declared.operand.Op.TheVariants.{Set, Add}

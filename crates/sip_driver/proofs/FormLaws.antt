@@ -1,12 +1,11 @@
 -- Each statement of the first profile, as the sequential meaning has it.
-use Rattle.std.proofs.Common.{◌≡◌, ℕ, zero, suc, ◌+◌, ◌-◌, ◌*◌, ◌<◌, ◌≤◌, Bool, true, false, List, [], ◌∷◌, ◌++◌, Option, Some, None, Ok, Err, map, length, replicate, slice_index_or, slice_set, refl, sym, ap, ◌∙◌, subst, arith, cond, append-nil, All, drop, if◌then◌else◌}
+use Rattle.std.proofs.Common.{◌≡◌, ℕ, zero, suc, ◌-◌, ◌<◌, Bool, true, false, List, [], ◌∷◌, ◌++◌, Option, Some, None, Ok, map, length, replicate, slice_index_or, slice_set, refl, sym, ap, ◌∙◌, subst, append-nil, drop, if◌then◌else◌}
 use Rattle.std.specs.List.{list_any}
-use Rattle.std.proofs.lemmas.List.{map-set, get_or-map, get_or-replicate, get_or_past}
+use Rattle.std.proofs.lemmas.List.{map-set, get_or-map}
 use Rattle.block_math.specs.Elements.{sums, dot_of}
 use Rattle.sial_syntax.specs.Boxes.{place_of}
-use Rattle.sial_syntax.specs.Spaces.{Spaces, Extent, Span, Segments, span_of, span_extent, span_first, span_count, first_of, count_of, extent, among, box_of, from_firsts}
-use Rattle.sial_syntax.specs.Tree.{Block, End, Then, Plain, Do, Assign, PrintScalar}
-use Rattle.sial_syntax.specs.declared.array.ArrayDecl.{ArrayDecl}
+use Rattle.sial_syntax.specs.Spaces.{Extent, Segments, span_of, span_extent, first_of, count_of, extent, among, box_of, from_firsts}
+use Rattle.sial_syntax.specs.Tree.{Assign, PrintScalar}
 use Rattle.sial_syntax.specs.declared.array.ArrayKind.{ArrayKind}
 use Rattle.sial_syntax.specs.declared.array.ArrayKind.TheVariants.{Static}
 use Rattle.sial_syntax.specs.declared.classes.ScalarClass.{ScalarClass}
@@ -19,19 +18,19 @@ use Rattle.sial_syntax.specs.declared.operand.Op.TheVariants.{Set, Add}
 use Rattle.sial_syntax.specs.declared.operand.Operand.TheVariants as operand
 use Rattle.sial_syntax.specs.declared.operand.Right.TheVariants.{One, Two}
 use Rattle.sial_syntax.specs.declared.operand.Target.TheVariants as target
-use Rattle.sial_meaning.specs.LocalStep.{Answer, and_then, or_trap, to_scalar, to_block, to_target, is_shared_kind, words_by_kind, scalar_assigned, local_step, scalar_line, old_words, quiet, with_words as with_words_own}
+use Rattle.sial_meaning.specs.LocalStep.{and_then, or_trap, to_scalar, to_block, to_target, is_shared_kind, words_by_kind, scalar_assigned, scalar_line, old_words, quiet, with_words as with_words_own}
 use Rattle.sial_meaning.specs.declared.trap.TrapKind.TheVariants.{UnsetScalar, NotCreated}
 use Rattle.sial_meaning.specs.Meaning.{form_meaning}
 use Rattle.sial_meaning.specs.Number.{plus}
 use Rattle.sial_meaning.specs.Own.{Own, start_own, number_of, scalar_of, sight, static_block}
 use Rattle.sial_meaning.specs.Right.{Plain as Uniform, Shown, Side, Alone, Joined, assigned}
-use Rattle.sial_meaning.specs.Setting.{Setting, scalar_class, array_kind, dims_of}
+use Rattle.sial_meaning.specs.Setting.{scalar_class, array_kind, dims_of}
 use Rattle.sial_meaning.specs.State.{State, start_state}
-use Rattle.sial_meaning.specs.Statement.{Outcome, Went, Reading, Present, local_done, unless_trapped, is_missing, reads_logged, values_of}
+use Rattle.sial_meaning.specs.Statement.{Outcome, Went, Present, local_done, unless_trapped, is_missing, reads_logged, values_of}
 use Rattle.sial_meaning.specs.Sight.{Sight}
-use Rattle.sip_driver.specs.First.{Path, setting_of, spaces_of, IsPath, IsBlock, dims_in}
-use Rattle.sip_driver.specs.Ran.{Fits, segment_len, index_of}
-use Rattle.sip_driver.specs.Running.{Numbers, words_of, with_words, with_scalar, scalar_in, number_in, only_index, line_of}
+use Rattle.sip_driver.specs.First.{Path, setting_of, spaces_of}
+use Rattle.sip_driver.specs.Ran.{Fits}
+use Rattle.sip_driver.specs.Running.{Numbers, words_of, with_words, with_scalar, scalar_in, number_in, line_of}
 use Rattle.sip_driver.proofs.BlocksSeen.{one, filled-one, added-one, product-one}
 use Rattle.sip_driver.proofs.Places.{place-one}
 

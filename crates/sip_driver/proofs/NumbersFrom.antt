@@ -1,5 +1,5 @@
 -- Numbers in a row, one turn after another.
-use Rattle.std.proofs.Common.{◌≡◌, ℕ, zero, suc, ◌+◌, ◌-◌, ◌<◌, List, [], ◌∷◌, ◌++◌, map, refl, sym, ap, ◌∙◌, arith, append_assoc}
+use Rattle.std.proofs.Common.{◌≡◌, ℕ, suc, ◌+◌, ◌-◌, ◌<◌, List, [], ◌∷◌, ◌++◌, map, sym, ap, ◌∙◌, arith, append_assoc}
 use Rattle.sial_syntax.specs.Boxes.{numbers_from}
 
 -- the numbers that are left before a turn are that turn's and those that are left behind it

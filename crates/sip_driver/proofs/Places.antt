@@ -1,8 +1,8 @@
 -- Boxes of one dimension, and blocks that lie on them.
-use Rattle.std.proofs.Common.{◌≡◌, ℕ, zero, suc, ◌+◌, ◌-◌, ◌*◌, ◌<◌, ◌≤◌, List, [], ◌∷◌, ◌++◌, map, length, replicate, slice_index_or, refl, sym, ap, ◌∙◌, subst, arith, add-one, add-zero}
+use Rattle.std.proofs.Common.{◌≡◌, ℕ, zero, suc, ◌+◌, ◌<◌, ◌≤◌, List, [], ◌∷◌, map, length, replicate, slice_index_or, refl, sym, ap, ◌∙◌, arith, add-one, add-zero}
 use Rattle.std.proofs.lemmas.Simd.{map-map}
 use Rattle.std.specs.List.{flat_map}
-use Rattle.sial_syntax.specs.Boxes.{numbers_from, volume, tuples, place_of}
+use Rattle.sial_syntax.specs.Boxes.{numbers_from, tuples, place_of}
 
 -- the tuples of one dimension are its numbers, each alone
 pub flat-alone : (ks : List ℕ) → flat_map (λ k. map (λ t. k ∷ t) ([] ∷ [])) ks ≡ map (λ (k : ℕ). k ∷ []) ks

@@ -1,14 +1,13 @@
 -- Texts that go out in a row.
-use Rattle.std.proofs.Common.{◌≡◌, ℕ, ◌≤◌, List, [], ◌∷◌, ◌++◌, Option, Some, None, Result, Ok, Err, refl, sym, ap, ◌∙◌, subst, append_assoc, append-nil, arith}
-use Rattle.sip_files.specs.Files.{Rose}
+use Rattle.std.proofs.Common.{◌≡◌, ℕ, List, [], ◌∷◌, ◌++◌, Option, Some, None, Result, Ok, Err, refl, sym, ap, ◌∙◌, subst, append_assoc, append-nil, arith}
 use Rattle.sip_files.specs.Kept.{Kept}
-use Rattle.sip_files.specs.Sink.{Wrote, Gains, GainsPart}
+use Rattle.sip_files.specs.Sink.{Wrote}
 use Rattle.sip_files.specs.declared.fault.Failed.{Failed}
 use Rattle.sip_files.proofs.SinkLemmas.{Gains-append, GainsPart-append, Gains-then_part}
 use Rattle.sip_driver.specs.First.{text_of}
 use Rattle.sip_driver.specs.Ran.{Ran, RanSoFar}
 use Rattle.sip_driver.specs.declared.fault.RunFault.{RunFault}
-use Rattle.sip_driver.specs.declared.fault.RunFault.TheVariants.{NotWritten, OutOfMemory}
+use Rattle.sip_driver.specs.declared.fault.RunFault.TheVariants.{NotWritten}
 
 -- the text of lines behind others
 pub text_of-append : (xs ys : List (List ℕ)) → text_of (xs ++ ys) ≡ text_of xs ++ text_of ys

@@ -1,5 +1,5 @@
 -- A run of the first profile is the sequential meaning.
-use Rattle.std.proofs.Common.{cond, ◌≡◌, ℕ, zero, suc, ◌+◌, ◌-◌, ◌*◌, ◌<◌, ◌≤◌, Bool, true, false, nat_lt, List, [], ◌∷◌, ◌++◌, Option, Some, None, map, length, replicate, slice_index_or, refl, sym, ap, ◌∙◌, subst, arith, append_assoc, append-nil, All}
+use Rattle.std.proofs.Common.{cond, ◌≡◌, ℕ, zero, suc, ◌+◌, ◌-◌, ◌<◌, ◌≤◌, Bool, true, false, nat_lt, List, [], ◌∷◌, ◌++◌, Option, Some, None, length, slice_index_or, refl, sym, ap, ◌∙◌, subst, arith, append_assoc, append-nil}
 use Rattle.std.proofs.lemmas.List.{get_or-map}
 use Rattle.std.proofs.lemmas.List.Elements.{All-get_or}
 use Rattle.sial_syntax.specs.Boxes.{numbers_from}
@@ -18,14 +18,14 @@ use Rattle.sial_syntax.specs.declared.operand.Op.TheVariants.{Set, Add}
 use Rattle.sial_syntax.specs.declared.operand.Operand.TheVariants as operand
 use Rattle.sial_syntax.specs.declared.operand.Right.TheVariants.{One, Two}
 use Rattle.sial_syntax.specs.declared.operand.Target.TheVariants as target
-use Rattle.sial_meaning.specs.Meaning.{form_meaning, block_meaning, calls, call_depth, over, then_own, on_own}
+use Rattle.sial_meaning.specs.Meaning.{form_meaning, block_meaning, over, then_own, on_own}
 use Rattle.sial_meaning.specs.Own.{bound}
-use Rattle.sial_meaning.specs.Setting.{Setting, no_array}
-use Rattle.sial_meaning.specs.State.{State, start_state}
+use Rattle.sial_meaning.specs.Setting.{no_array}
+use Rattle.sial_meaning.specs.State.{State}
 use Rattle.sial_meaning.specs.Statement.{Outcome, Went, Present, after}
-use Rattle.sip_driver.specs.First.{Path, setting_of, spaces_of, span_of_range, from_to, IsPath, IsRange, IsArray, OneBelow, IsBlock, IsForm, IsBody, dims_in, printed_text, text_of, lines_of}
-use Rattle.sip_driver.specs.Ran.{Fits, IsWithin, IsAt, segment_len}
-use Rattle.sip_driver.specs.Running.{Numbers, start_numbers, body_lines, form_lines, ran, ran_form, words_of, through, lines_through, segments_in, with_value}
+use Rattle.sip_driver.specs.First.{Path, setting_of, spaces_of, span_of_range, from_to, IsPath, IsRange, IsArray, OneBelow, IsBlock, IsForm, IsBody}
+use Rattle.sip_driver.specs.Ran.{Fits, IsWithin}
+use Rattle.sip_driver.specs.Running.{Numbers, body_lines, form_lines, ran, ran_form, words_of, through, lines_through, with_value}
 use Rattle.sip_driver.proofs.FitsLemmas.{fits_form, fits_body, fits_value, within_form, within_at, at_segment, length-words}
 use Rattle.sip_driver.proofs.FormLaws.{state_of, IsThere, over_one, print-law, set-law, increase-law, fill-law, add-law, contract-law}
 

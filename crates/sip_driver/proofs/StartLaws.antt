@@ -1,20 +1,18 @@
 -- A run of the first profile begins as the sequential meaning does.
-use Rattle.std.proofs.Common.{◌≡◌, ℕ, zero, suc, ◌+◌, ◌-◌, ◌*◌, ◌/◌, ◌%◌, ◌<◌, ◌≤◌, List, [], ◌∷◌, ◌++◌, Option, Some, None, map, length, replicate, slice_index_or, refl, sym, ap, ◌∙◌, subst, arith, All}
+use Rattle.std.proofs.Common.{◌≡◌, ℕ, zero, suc, ◌+◌, ◌*◌, ◌/◌, ◌<◌, List, [], ◌∷◌, Option, Some, None, map, length, replicate, slice_index_or, refl, sym, ap, ◌∙◌, arith}
 use Rattle.std.proofs.lemmas.List.Elements.{All-get_or}
 use Rattle.std.proofs.lemmas.Simd.{map-map}
-use Rattle.sial_syntax.specs.Boxes.{numbers_from, volume, tuple_at}
-use Rattle.sial_syntax.specs.Spaces.{Span, Segments, span_of, span_kind, first_of, count_of, among, segment, kind_of, box_of, numbers_at, words_in}
-use Rattle.sial_syntax.specs.declared.array.ArrayDecl.{ArrayDecl}
+use Rattle.sial_syntax.specs.Boxes.{numbers_from, volume}
+use Rattle.sial_syntax.specs.Spaces.{Span, span_kind, first_of, count_of, among, segment, box_of, numbers_at, words_in}
 use Rattle.sial_syntax.specs.declared.array.ArrayKind.{ArrayKind}
 use Rattle.sial_syntax.specs.declared.classes.ScalarClass.{ScalarClass}
-use Rattle.sial_syntax.specs.declared.index.Kind.{Kind}
 use Rattle.sial_meaning.specs.Meaning.{block_meaning, calls, call_depth}
 use Rattle.sial_meaning.specs.Own.{start_scalar, start_statics, start_block, for_each}
-use Rattle.sial_meaning.specs.Setting.{no_array, array_kind, block_count, block_words, scalar_class}
+use Rattle.sial_meaning.specs.Setting.{no_array, array_kind, block_count, scalar_class}
 use Rattle.sial_meaning.specs.State.{State, start_state}
-use Rattle.sial_meaning.specs.Statement.{Outcome, Went, Present}
+use Rattle.sial_meaning.specs.Statement.{Outcome, Present}
 use Rattle.sip_driver.specs.First.{Path, setting_of, spaces_of, IsPath, IsArray, OneBelow, printed_text, text_of, lines_of}
-use Rattle.sip_driver.specs.Running.{Numbers, start_numbers, zero_blocks, segments_in, only_index, ran, body_lines}
+use Rattle.sip_driver.specs.Running.{start_numbers, zero_blocks, segments_in, only_index, body_lines}
 use Rattle.sip_driver.proofs.FormLaws.{state_of, class-is}
 use Rattle.sip_driver.proofs.Places.{map-from, map-same, map-read, numbers-shift}
 use Rattle.sip_driver.proofs.Sequential.{body_law, span-is, one_below}

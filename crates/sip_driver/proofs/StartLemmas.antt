@@ -1,13 +1,12 @@
 -- The numbers of a run as it begins have the shape of their program.
-use Rattle.std.proofs.Common.{◌≡◌, ℕ, zero, suc, ◌+◌, ◌-◌, ◌<◌, List, [], ◌∷◌, Option, Some, None, map, length, replicate, slice_index_or, refl, sym, ap, ◌∙◌, subst, arith, All}
+use Rattle.std.proofs.Common.{◌≡◌, ℕ, zero, suc, ◌+◌, ◌<◌, List, [], map, length, replicate, slice_index_or, refl, sym, ap, ◌∙◌, subst, arith}
 use Rattle.std.proofs.lemmas.List.{length-replicate, length-map, get_or-map}
 use Rattle.sial_syntax.specs.Boxes.{numbers_from}
 use Rattle.sial_syntax.specs.Spaces.{first_of, count_of, among}
-use Rattle.sial_syntax.specs.declared.array.ArrayDecl.{ArrayDecl}
 use Rattle.sial_syntax.specs.declared.array.ArrayKind.TheVariants.{Static}
-use Rattle.sip_driver.specs.First.{Path, spaces_of, dims_in, IsPath}
-use Rattle.sip_driver.specs.Ran.{Fits, segment_len, index_of}
-use Rattle.sip_driver.specs.Running.{Numbers, start_numbers, zero_blocks, segments_in, only_index}
+use Rattle.sip_driver.specs.First.{Path, spaces_of}
+use Rattle.sip_driver.specs.Ran.{Fits, index_of}
+use Rattle.sip_driver.specs.Running.{start_numbers, zero_blocks, segments_in}
 
 -- so many numbers in a row
 pub length-numbers_from : (first n : ℕ) → length (numbers_from first n) ≡ n

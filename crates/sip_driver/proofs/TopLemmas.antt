@@ -1,8 +1,7 @@
 -- What two loads show of the texts.
-use Rattle.std.proofs.Common.{◌≡◌, ℕ, ◌+◌, ◌-◌, ◌^◌, ◌<◌, ◌≤◌, ◌⊎◌, List, Option, Some, None, length, refl, sym, ◌∙◌, subst, inl, inr, arith}
-use Rattle.std.specs.FinMap as map
-use Rattle.sip_files.specs.Files.{Folder, Rose, WhereTold}
-use Rattle.sip_driver.specs.Top.{Names, Loads, ForTexts, IsUnread, IsUnreadable, IsLong}
+use Rattle.std.proofs.Common.{◌≡◌, ℕ, ◌≤◌, ◌⊎◌, List, Option, Some, None, length, subst, inl, inr, arith}
+use Rattle.sip_files.specs.Files.{Folder, WhereTold}
+use Rattle.sip_driver.specs.Top.{Names, ForTexts, IsUnreadable, IsLong}
 
 -- a fact about two texts that were loaded
 pub for_texts : (told : Option Folder) (names : Names) (program input : List ℕ) (fact : List ℕ → List ℕ → Type 0) → WhereTold told names.program (λ held. held ≡ Some program) → WhereTold told names.input (λ held. held ≡ Some input) → fact program input → ForTexts told names fact

@@ -1,6 +1,5 @@
 -- What the lines of a program of the first profile build, one after another.
-use Rattle.std.specs.Prelude.{ℕ, ◌+◌, List, [], ◌∷◌, ◌++◌, map, length, Bool, true, false, ◌==◌, ◌&&◌, ◌||◌, not, nat_lt, Option, Some, None, is_none, position, slice_index_or, option_and_then}
-use Rattle.std.specs.List.{list_any}
+use Rattle.std.specs.Prelude.{ℕ, ◌+◌, List, [], ◌∷◌, ◌++◌, map, length, Bool, true, false, ◌==◌, ◌&&◌, nat_lt, Option, Some, None, is_none, position, slice_index_or, option_and_then}
 use Rattle.std.specs.Str.{bytes_eq}
 use Rattle.sial_syntax.specs.declared.array.ArrayDecl.{ArrayDecl}
 use Rattle.sial_syntax.specs.declared.array.ArrayKind.TheVariants.{Static}
@@ -14,7 +13,7 @@ use Rattle.sial_syntax.specs.declared.operand.Op.TheVariants.{Set, Add}
 use Rattle.sial_syntax.specs.declared.operand.Operand.TheVariants as operand
 use Rattle.sial_syntax.specs.declared.operand.Right.TheVariants.{One, Two}
 use Rattle.sial_syntax.specs.declared.operand.Target.TheVariants as target
-use Rattle.sial_syntax.specs.Tree.{Tree, Block, Plain, Do, Assign, PrintScalar, block_of}
+use Rattle.sial_syntax.specs.Tree.{Tree, Plain, Do, Assign, PrintScalar, block_of}
 use Rattle.sip_driver.specs.Lines.{Line, Head, Index, Array, Scalar, Loop, LoopEnd, Fill, AddBlock, SetScalar, AddNumber, Contract, Print, Tail, value_of}
 
 -- a loop whose end hasn't come: its line, its index and its statements so far

@@ -1,5 +1,5 @@
 -- Programs of the first profile: which trees they are, and the setting that the sequential meaning has for them.
-use Rattle.std.specs.Prelude.{◌≡◌, ℕ, zero, ◌+◌, ◌-◌, ◌^◌, ◌<◌, ◌≤◌, List, [], ◌∷◌, ◌++◌, map, length, replicate, flat_map, Option, Some, None, slice_index_or, if◌then◌else◌, nat_lt, All}
+use Rattle.std.specs.Prelude.{◌≡◌, ℕ, ◌+◌, ◌-◌, ◌^◌, ◌<◌, ◌≤◌, List, [], ◌∷◌, ◌++◌, map, length, replicate, flat_map, Option, Some, None, slice_index_or, if◌then◌else◌, nat_lt, All}
 use Rattle.sial_syntax.specs.declared.array.ArrayDecl.{ArrayDecl}
 use Rattle.sial_syntax.specs.declared.array.ArrayKind.TheVariants.{Static}
 use Rattle.sial_syntax.specs.declared.classes.ScalarClass.TheVariants.{Replicated}
@@ -20,7 +20,6 @@ use Rattle.sial_syntax.specs.Spaces.{Spaces, Cut, Span, Segments}
 use Rattle.sial_syntax.specs.Tree.{Tree, tree, Block, End, Then, Plain, Do, Assign, PrintScalar}
 use Rattle.sial_meaning.specs.Meaning.{sequential}
 use Rattle.sial_meaning.specs.Setting.{Setting}
-use Rattle.sial_meaning.specs.State.{State}
 use Rattle.sial_meaning.specs.Statement.{Outcome, Went, Stopped}
 use Rattle.sip_driver.specs.declared.first.First.{First}
 

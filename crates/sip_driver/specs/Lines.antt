@@ -1,5 +1,5 @@
 -- The lines of a program of the first profile: what each says, and how it is spelled.
-use Rattle.std.specs.Prelude.{◌≡◌, ℕ, ◌+◌, ◌-◌, ◌*◌, ◌^◌, List, [], ◌∷◌, ◌++◌, map, Bool, true, false, ◌&&◌, not, nat_lt, codes, ◌⊎◌}
+use Rattle.std.specs.Prelude.{◌≡◌, ℕ, ◌+◌, ◌-◌, ◌*◌, ◌^◌, List, [], ◌∷◌, ◌++◌, Bool, true, false, ◌&&◌, nat_lt, codes, ◌⊎◌}
 use Rattle.std.specs.List.{list_all, join_with_byte, fold}
 use Rattle.sial_syntax.specs.Names.{is_name, is_digit}
 

@@ -1,5 +1,5 @@
 -- The first profile: which two texts are a program and its input, and of which tree and lengths.
-use Rattle.std.specs.Prelude.{◌≡◌, ℕ, ◌≤◌, List, [], ◌∷◌, ◌++◌, map, flat_map, length, codes, Option, Some, None, IsTrue, All, ◌⊎◌}
+use Rattle.std.specs.Prelude.{◌≡◌, ℕ, ◌≤◌, List, [], ◌∷◌, ◌++◌, map, flat_map, length, codes, Some, IsTrue, All}
 use Rattle.std.specs.List.{list_all}
 use Rattle.sial_syntax.specs.declared.index.IndexDecl.{IndexDecl}
 use Rattle.sip_driver.specs.Built.{built}

@@ -1,14 +1,14 @@
 -- What a run leaves of its output, and what it needs of its numbers.
-use Rattle.std.specs.Prelude.{◌≡◌, ℕ, ◌+◌, ◌-◌, ◌<◌, ◌≤◌, List, [], ◌∷◌, ◌++◌, length, Option, Some, None, Result, Ok, OnOk, OnErr, IsErrOf, slice_index_or}
+use Rattle.std.specs.Prelude.{◌≡◌, ℕ, ◌+◌, ◌<◌, ◌≤◌, List, [], ◌++◌, length, Option, Some, None, Result, Ok, OnOk, OnErr, IsErrOf, slice_index_or}
 use Rattle.sial_syntax.specs.Spaces.{first_of, count_of, among}
 use Rattle.sial_syntax.specs.declared.operand.BlockRef.{BlockRef}
 use Rattle.sip_files.specs.Files.{Rose}
 use Rattle.sip_files.specs.Kept.{Kept}
 use Rattle.sip_files.specs.Sink.{Gains, GainsPart}
 use Rattle.sip_driver.specs.First.{Path, spaces_of, dims_in, text_of}
-use Rattle.sip_driver.specs.Running.{Numbers, only_index, number_in, words_of}
+use Rattle.sip_driver.specs.Running.{Numbers, only_index, number_in}
 use Rattle.sip_driver.specs.declared.fault.RunFault.{RunFault}
-use Rattle.sip_driver.specs.declared.fault.RunFault.TheVariants.{NotWritten, OutOfMemory}
+use Rattle.sip_driver.specs.declared.fault.RunFault.TheVariants.{NotWritten}
 
 -- a text went out whole, or a first part of it, where a write failed and was counted, or memory ran out
 pub record Ran (old new : Option (List ℕ)) (before now : ℕ) (was is : Kept) (text : List ℕ) (result : Result (Unit {0}) RunFault) : Type 0 where

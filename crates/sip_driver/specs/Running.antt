@@ -1,5 +1,5 @@
 -- What a run of the first profile does to its numbers, one statement after another, and the lines that it prints.
-use Rattle.std.specs.Prelude.{ℕ, zero, suc, ◌+◌, ◌-◌, ◌*◌, ◌%◌, ◌^◌, List, [], ◌∷◌, ◌++◌, map, zip, length, replicate, sum_by, slice_index_or, slice_set, decimal, codes}
+use Rattle.std.specs.Prelude.{ℕ, ◌-◌, List, [], ◌∷◌, ◌++◌, map, length, replicate, slice_index_or, slice_set, decimal, codes}
 use Rattle.sial_syntax.specs.Boxes.{numbers_from}
 use Rattle.sial_syntax.specs.Spaces.{first_of, count_of, among}
 use Rattle.sial_syntax.specs.Tree.{Block, End, Then, Plain, Do, Assign, PrintScalar}
