@@ -28,3 +28,4 @@ pub mod WorkedTrapsRuns
 pub mod MarkLemmas
 pub mod WorkedUnsetRuns
 pub mod EpochOrderLemmas
+pub mod WorkedLaterRuns

@@ -29,3 +29,4 @@ pub mod WorkedCalls
 pub mod WorkedTraps
 pub mod MarkLaws
 pub mod WorkedUnset
+pub mod WorkedLater

@@ -1,6 +1,7 @@
 //! Programs that show one feature of the language each, run by the definitions: laws with nothing to run.
 
 ghost use Rattle.sial_meaning.specs.WorkedCalls.{GivenRuns, NestedRuns, RoomsRuns, WheresRuns};
+ghost use Rattle.sial_meaning.specs.WorkedLater.{SecondArrayRuns, ServedClashRuns};
 ghost use Rattle.sial_meaning.specs.WorkedParts.{FormsRuns, PartsRuns};
 ghost use Rattle.sial_meaning.specs.WorkedTraps.{AllocatedTwiceRuns, DeletedPutRuns, DeletedTwiceRuns, MissingRuns, NotAllocatedRuns};
 ghost use Rattle.sial_meaning.specs.WorkedUnset.{InsertedRuns, KeptRuns, OtherBlockRuns, PrivateRuns, UnsetAfterRuns};
@@ -23,4 +24,6 @@ pub fn feature_programs()
     ensures deleted_twice { DeletedTwiceRuns }
     ensures allocated_twice { AllocatedTwiceRuns }
     ensures not_allocated { NotAllocatedRuns }
+    ensures second_array { SecondArrayRuns }
+    ensures served_clash { ServedClashRuns }
 {}

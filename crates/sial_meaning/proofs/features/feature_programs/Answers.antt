@@ -2,6 +2,7 @@ use Rattle.sial_meaning.proofs.WorkedPartsRuns.{parts-runs, forms-runs}
 use Rattle.sial_meaning.proofs.WorkedCallsRuns.{nested-runs, wheres-runs, rooms-runs, given-runs}
 use Rattle.sial_meaning.proofs.WorkedUnsetRuns.{kept-runs, other-block-runs, private-runs, unset-after-runs, inserted-runs}
 use Rattle.sial_meaning.proofs.WorkedTrapsRuns.{missing-runs, deleted-put-runs, deleted-twice-runs, allocated-twice-runs, not-allocated-runs}
+use Rattle.sial_meaning.proofs.WorkedLaterRuns.{second-array-runs, served-clash-runs}
 use Rattle.sial_meaning.proofs.features.feature_programs.Goals as goal
 
 pub returns : goal.returns
@@ -22,4 +23,6 @@ returns c = record {
   deleted_twice = deleted-twice-runs;
   allocated_twice = allocated-twice-runs;
   not_allocated = not-allocated-runs;
+  second_array = second-array-runs;
+  served_clash = served-clash-runs;
 }
