@@ -7,28 +7,13 @@ top=$(cd "$here/../.." && pwd)
 work=$(mktemp -d)
 trap 'rm -rf "$work"' EXIT
 
-# A repository of its own, so that the gate of this one knows nothing of it.
-mkdir "$work/crates"
-cp "$top/HANDLES" "$work/"
-for crate in block_math kernel_permute kernel_contract; do
-    cp -R "$top/crates/$crate" "$work/crates/"
-    rm -rf "$work/crates/$crate/must-fail"
-done
-cp -R "$here/timing" "$work/crates/"
-cat > "$work/crates.txt" <<'END'
-block_math:
-kernel_permute:
-kernel_contract: kernel_permute
-timing: block_math kernel_permute kernel_contract
-END
-
-# What is timed is proved: this proves all four crates before it builds the program.
+# What is timed is proved: this proves the program and the kernels before it builds the program.
 echo "proving and building the kernels" >&2
-if ! (cd "$work/crates/timing" && rt run) > "$work/log" 2>&1; then
+if ! (cd "$top/crates/kernel_timing" && rt run) > "$work/log" 2>&1; then
     tail -n 40 "$work/log" >&2
     exit 1
 fi
-proved=$work/crates/timing/out/timing
+proved=$top/crates/kernel_timing/out/kernel_timing
 
 plain=
 if command -v rustc > /dev/null; then
@@ -44,7 +29,7 @@ for _ in $(seq "$rounds"); do
     if [ -n "$plain" ]; then
         "$plain" | sed 's/^/plain /'
     fi
-    "$proved" | sed 's/^/proved /'
+    "$proved" times | sed 's/^/proved /'
 done > "$work/times"
 
 rt version

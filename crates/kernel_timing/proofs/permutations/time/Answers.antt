@@ -1,6 +1,6 @@
 use Rattle.std.proofs.Common.{refl}
 use Rattle.kernel_permute.proofs.OrderLemmas.{order_from_test}
-use Rattle.timing.proofs.permutations.time.Goals as goal
+use Rattle.kernel_timing.proofs.permutations.time.Goals as goal
 
 pub time_rank-requires-clause-order : goal.time_rank-requires-clause-order
 time_rank-requires-clause-order c = order_from_test _ refl
