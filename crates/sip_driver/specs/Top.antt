@@ -55,6 +55,10 @@ abbrev pub IsUnread : Option Folder → (old new : Loads) → (name : List ℕ) 
 IsUnread None old new name most = Rose old.failed new.failed ⊎ Rose old.overlong new.overlong
 IsUnread (Some files) old new name most = Rose old.failed new.failed ⊎ IsUnreadable (Some files) name most
 
+-- no load was counted as failed, and none as one that read more than its limit
+abbrev pub AreLoaded : (old new : Loads) → Type 0
+AreLoaded old new = (new.failed ≡ old.failed) × (new.overlong ≡ old.overlong)
+
 -- a fact about the two texts, where the files tell them
 abbrev pub ForTexts : Option Folder → Names → (List ℕ → List ℕ → Type 0) → Type 0
 ForTexts None names fact = Unit {0}

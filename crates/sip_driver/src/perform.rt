@@ -3,7 +3,7 @@
 ghost use Rattle.std.specs.Prelude.{◌≡◌, ◌≢◌, ◌≤◌, ◌⊎◌};
 ghost use Rattle.sip_files.specs.Files.{Rose, CountsOnly};
 ghost use Rattle.sip_files.specs.declared.call.Call.TheVariants.{Load};
-ghost use Rattle.sip_driver.specs.Top.{Names, Loads, ForTexts, IsUnread, IsUnreadable, Prints, PrintsPart, PrintsSome, IsNotFirst, most_program, most_input};
+ghost use Rattle.sip_driver.specs.Top.{Names, Loads, ForTexts, AreLoaded, IsUnread, IsUnreadable, Prints, PrintsPart, PrintsSome, IsNotFirst, most_program, most_input};
 
 use crate::answer::Answer;
 use crate::fault::RunFault;
@@ -35,6 +35,11 @@ pub fn perform<F: Files, K: Sink>(
     ensures no_input { result ≡ Answer.NoInput → IsUnread (F.told files.old) (record { failed = F.faults files.old Load; overlong = F.overlong files.old }) (record { failed = F.faults files.new Load; overlong = F.overlong files.new }) input.now most_input }
     ensures program_unreadable { IsUnreadable (F.told files.old) program.now most_program → (result ≡ Answer.NoProgram) ⊎ (result ≡ Answer.OutOfMemory) }
     ensures input_unreadable { IsUnreadable (F.told files.old) input.now most_input → (result ≡ Answer.NoProgram) ⊎ ((result ≡ Answer.NoInput) ⊎ (result ≡ Answer.OutOfMemory)) }
+
+    // The texts are looked at once both loads answered Ok, so none of the two was counted.
+    ensures done_loaded { result ≡ Answer.Done → AreLoaded (record { failed = F.faults files.old Load; overlong = F.overlong files.old }) (record { failed = F.faults files.new Load; overlong = F.overlong files.new }) }
+    ensures not_first_loaded { result ≡ Answer.NotFirst → AreLoaded (record { failed = F.faults files.old Load; overlong = F.overlong files.old }) (record { failed = F.faults files.new Load; overlong = F.overlong files.new }) }
+    ensures not_written_loaded { result ≡ Answer.NotWritten → AreLoaded (record { failed = F.faults files.old Load; overlong = F.overlong files.old }) (record { failed = F.faults files.new Load; overlong = F.overlong files.new }) }
 
     // The output is touched by a run alone.
     ensures no_program_kept { result ≡ Answer.NoProgram → K.written out.new ≡ K.written out.old }

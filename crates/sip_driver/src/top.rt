@@ -3,7 +3,7 @@
 ghost use Rattle.std.specs.Prelude.{◌≡◌, ◌≢◌, ◌≤◌, ◌↔◌, ◌⊎◌, Some, None};
 ghost use Rattle.sip_files.specs.Files.{Rose, CountsOnly};
 ghost use Rattle.sip_files.specs.declared.call.Call.TheVariants.{Load};
-ghost use Rattle.sip_driver.specs.Top.{Names, Loads, asked, ForNames, ForTexts, IsUnread, IsUnreadable, IsNotFirst, Prints, PrintsPart, Says, read_line, line_of, IsAnswer, most_program, most_input};
+ghost use Rattle.sip_driver.specs.Top.{Names, Loads, asked, ForNames, ForTexts, AreLoaded, IsUnread, IsUnreadable, IsNotFirst, Prints, PrintsPart, Says, read_line, line_of, IsAnswer, most_program, most_input};
 
 use crate::answer::Answer;
 use crate::perform::perform;
@@ -34,7 +34,10 @@ pub fn sip<F: Files, K: Sink>(
     ensures program_unreadable { (names : Names) → asked words.now ≡ Some names → IsUnreadable (F.told files.old) names.program most_program → (result.0 ≡ 2) ⊎ (result.0 ≡ 13) }
     ensures input_unreadable { (names : Names) → asked words.now ≡ Some names → IsUnreadable (F.told files.old) names.input most_input → (result.0 ≡ 2) ⊎ (result.0 ≡ 13) }
 
-    // The texts are looked at once both files were read.
+    // The texts are looked at once both loads answered Ok, so none of the two was counted.
+    ensures ok_loaded { result.0 ≡ 0 → AreLoaded (record { failed = F.faults files.old Load; overlong = F.overlong files.old }) (record { failed = F.faults files.new Load; overlong = F.overlong files.new }) }
+    ensures syntax_loaded { result.0 ≡ 3 → AreLoaded (record { failed = F.faults files.old Load; overlong = F.overlong files.old }) (record { failed = F.faults files.new Load; overlong = F.overlong files.new }) }
+    ensures write_loaded { result.0 ≡ 10 → AreLoaded (record { failed = F.faults files.old Load; overlong = F.overlong files.old }) (record { failed = F.faults files.new Load; overlong = F.overlong files.new }) }
     ensures syntax { result.0 ≡ 3 → ForNames (asked words.now) (λ names. ForTexts (F.told files.old) names IsNotFirst) }
 
     // A program of the first profile runs: the output gains all printed lines, or a first part of them.

@@ -35,6 +35,7 @@ pub trait Files {
         ensures missing { IsErrOf result LoadFault.Missing → IsMissing (told self.old) name.now }
         ensures long { IsErrOf result LoadFault.TooLong → IsTooLong (told self.old) name.now most (overlong self.old) (overlong self.new) into.new.items }
         ensures cause { IsErrOf result LoadFault.Failed → Rose (faults self.old Load) (faults self.new Load) }
+        ensures uncounted { OnOk result (faults self.new Load ≡ faults self.old Load) }
 
         ensures told { told self.new ≡ told self.old }
         ensures counts { CountsOnly Load (faults self.old) (faults self.new) }

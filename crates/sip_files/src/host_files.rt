@@ -64,6 +64,7 @@ impl<'a, R: std::rt::Files> Files for HostFiles<'a, R> {
         ensures missing { IsErrOf result LoadFault.Missing → ⊥ }
         ensures long { IsErrOf result LoadFault.TooLong → ReadsMore self.old.overlong self.new.overlong most into.new.items }
         ensures cause { IsErrOf result LoadFault.Failed → Rose self.old.faults.load self.new.faults.load }
+        ensures uncounted { OnOk result (self.new.faults.load ≡ self.old.faults.load) }
 
         // Each failure is counted, each load that read more than its limit, and nothing else.
         ensures after { self.new ≡ after_answer self.old result }

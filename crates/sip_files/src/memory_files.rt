@@ -115,6 +115,7 @@ impl Files for MemoryFiles {
 
         // The load fails exactly where that was planned, and nothing but its count changes.
         ensures planned { IsErrOf result LoadFault.Failed ↔ IsTrue (is_next self.old.plans.load) }
+        ensures uncounted { OnOk result (faults_of self.new Load ≡ faults_of self.old Load) }
         ensures after { self.new ≡ after_load self.old }
         ensures counts { CountsOnly Load (faults_of self.old) (faults_of self.new) }
     {

@@ -1,6 +1,6 @@
 //! Planned faults of one kind of call.
 
-ghost use Rattle.std.specs.Prelude.{◌≡◌, ◌+◌, ◌≤◌, ◌==◌, OnOk, OnErr};
+ghost use Rattle.std.specs.Prelude.{◌≡◌, ◌+◌, ◌≤◌, ◌==◌, false, OnOk, OnErr};
 ghost use Rattle.std.specs.List.{list_any};
 ghost use Rattle.sip_files.specs.Plan.{unplanned, with_number, is_next, after_call, after_refusal};
 
@@ -50,6 +50,7 @@ impl Plan {
         ensures value { result ≡ is_next self.old }
         ensures after { self.new ≡ after_call self.old }
         ensures never_falls { self.old.faults ≤ self.new.faults }
+        ensures uncounted { result ≡ false → self.new.faults ≡ self.old.faults }
     {
         let calls = self.calls;
         let fails = is_planned(self.numbers.as_slice(), calls);
