@@ -9,6 +9,9 @@ pub mod RestLemmasFold
 pub mod RestLemmasKept
 pub mod RestLemmasRules
 pub mod RestLemmasTurns
+pub mod SoundLemmas
+pub mod GrantedLemmas
+pub mod CopyLemmas
 pub mod WorkedFirstRuns
 pub mod WorkedSmallRuns
 pub mod WorkedClashesRuns

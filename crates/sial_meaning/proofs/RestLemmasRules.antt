@@ -33,17 +33,17 @@ neither true b e = absurd cc
 neither false b e = (refl, e)
 
 -- no list is empty that has others before or behind it
-append_none : {X : Type 0} (xs ys : List X) → xs ++ ys ≡ [] → (xs ≡ []) × (ys ≡ [])
+pub append_none : {X : Type 0} (xs ys : List X) → xs ++ ys ≡ [] → (xs ≡ []) × (ys ≡ [])
 append_none [] ys e = (refl, e)
 append_none (x ∷ xs) ys e = absurd cc
 
 -- no list is empty whose image has entries
-map_none : {X Y : Type 0} (f : X → Y) (xs : List X) → map f xs ≡ [] → xs ≡ []
+pub map_none : {X Y : Type 0} (f : X → Y) (xs : List X) → map f xs ≡ [] → xs ≡ []
 map_none f [] e = refl
 map_none f (x ∷ xs) e = absurd cc
 
 -- an entry that is left out
-kept_none : {X : Type 0} (b : Bool) (x : X) (xs : List X) → cond b (x ∷ xs) xs ≡ [] → (b ≡ false) × (xs ≡ [])
+pub kept_none : {X : Type 0} (b : Bool) (x : X) (xs : List X) → cond b (x ∷ xs) xs ≡ [] → (b ≡ false) × (xs ≡ [])
 kept_none true x xs e = absurd cc
 kept_none false x xs e = (refl, e)
 
@@ -65,7 +65,7 @@ pub unbound_one : (bound : List ℕ) (index : ℕ) (indices : List ℕ) → shar
 unbound_one bound index indices e = neither (contains bound index) (share_any indices bound) e
 
 -- no first fault is no fault
-fault_none : (faults : List Fault) → first_fault faults ≡ None → faults ≡ []
+pub fault_none : (faults : List Fault) → first_fault faults ≡ None → faults ≡ []
 fault_none [] e = refl
 fault_none (f ∷ fs) e = absurd cc
 

@@ -1,11 +1,13 @@
 -- Runs of worked programs: accesses of one epoch.
 use Rattle.std.proofs.Common.{◌≡◌, refl}
-use Rattle.std.specs.Prelude.{None}
+use Rattle.std.specs.Prelude.{[], None}
 use Rattle.sial_syntax.specs.Shapes.{shape_fault}
 use Rattle.sial_syntax.specs.SideRules.{side_fault}
 use Rattle.sial_meaning.specs.Accepted.{first_refusal}
 use Rattle.sial_meaning.specs.Meaning.{sequential}
 use Rattle.sial_meaning.specs.Runs.{final_of}
+use Rattle.sial_meaning.specs.Sound.{IsSound}
+use Rattle.sial_meaning.proofs.SoundLemmas.{sound-by}
 use Rattle.std.specs.Prelude.{Some}
 use Rattle.sial_syntax.specs.declared.access.Access.TheVariants as access
 use Rattle.sial_syntax.specs.declared.access.Class.TheVariants as class
@@ -18,6 +20,9 @@ clash-shapes = refl
 clash-sides : side_fault clash.program ≡ None
 clash-sides = refl
 
+clash-sound : IsSound clash
+clash-sound = sound-by clash [] clash-shapes clash-sides refl refl refl refl refl refl
+
 clash-ends : final_of (sequential clash) ≡ clash_final
 clash-ends = refl
 
@@ -25,13 +30,16 @@ clash-refusal : first_refusal clash ≡ Some (Clashed (record { class = class.Di
 clash-refusal = refl
 
 pub clash-runs : ClashRuns
-clash-runs = record { shapes = clash-shapes; sides = clash-sides; classes = refl; locals = refl; ends = clash-ends; refused = clash-refusal }
+clash-runs = record { sound = clash-sound; ends = clash-ends; refused = clash-refusal }
 
 clash-add-shapes : shape_fault clash_add.program ≡ None
 clash-add-shapes = refl
 
 clash-add-sides : side_fault clash_add.program ≡ None
 clash-add-sides = refl
+
+clash-add-sound : IsSound clash_add
+clash-add-sound = sound-by clash_add [] clash-add-shapes clash-add-sides refl refl refl refl refl refl
 
 clash-add-ends : final_of (sequential clash_add) ≡ clash_add_final
 clash-add-ends = refl
@@ -40,13 +48,16 @@ clash-add-refusal : first_refusal clash_add ≡ None
 clash-add-refusal = refl
 
 pub clash-add-runs : ClashAddRuns
-clash-add-runs = record { shapes = clash-add-shapes; sides = clash-add-sides; classes = refl; locals = refl; ends = clash-add-ends; refused = clash-add-refusal }
+clash-add-runs = record { sound = clash-add-sound; ends = clash-add-ends; refused = clash-add-refusal }
 
 clash-max-shapes : shape_fault clash_max.program ≡ None
 clash-max-shapes = refl
 
 clash-max-sides : side_fault clash_max.program ≡ None
 clash-max-sides = refl
+
+clash-max-sound : IsSound clash_max
+clash-max-sound = sound-by clash_max [] clash-max-shapes clash-max-sides refl refl refl refl refl refl
 
 clash-max-ends : final_of (sequential clash_max) ≡ clash_max_final
 clash-max-ends = refl
@@ -55,13 +66,16 @@ clash-max-refusal : first_refusal clash_max ≡ None
 clash-max-refusal = refl
 
 pub clash-max-runs : ClashMaxRuns
-clash-max-runs = record { shapes = clash-max-shapes; sides = clash-max-sides; classes = refl; locals = refl; ends = clash-max-ends; refused = clash-max-refusal }
+clash-max-runs = record { sound = clash-max-sound; ends = clash-max-ends; refused = clash-max-refusal }
 
 mix-shapes : shape_fault mix.program ≡ None
 mix-shapes = refl
 
 mix-sides : side_fault mix.program ≡ None
 mix-sides = refl
+
+mix-sound : IsSound mix
+mix-sound = sound-by mix [] mix-shapes mix-sides refl refl refl refl refl refl
 
 mix-ends : final_of (sequential mix) ≡ mix_final
 mix-ends = refl
@@ -70,13 +84,16 @@ mix-refusal : first_refusal mix ≡ Some (Clashed (record { class = class.Distri
 mix-refusal = refl
 
 pub mix-runs : MixRuns
-mix-runs = record { shapes = mix-shapes; sides = mix-sides; classes = refl; locals = refl; ends = mix-ends; refused = mix-refusal }
+mix-runs = record { sound = mix-sound; ends = mix-ends; refused = mix-refusal }
 
 apart-shapes : shape_fault apart.program ≡ None
 apart-shapes = refl
 
 apart-sides : side_fault apart.program ≡ None
 apart-sides = refl
+
+apart-sound : IsSound apart
+apart-sound = sound-by apart [] apart-shapes apart-sides refl refl refl refl refl refl
 
 apart-ends : final_of (sequential apart) ≡ apart_final
 apart-ends = refl
@@ -85,4 +102,4 @@ apart-refusal : first_refusal apart ≡ None
 apart-refusal = refl
 
 pub apart-runs : ApartRuns
-apart-runs = record { shapes = apart-shapes; sides = apart-sides; classes = refl; locals = refl; ends = apart-ends; refused = apart-refusal }
+apart-runs = record { sound = apart-sound; ends = apart-ends; refused = apart-refusal }

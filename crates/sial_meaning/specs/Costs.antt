@@ -5,25 +5,11 @@ use Rattle.sial_syntax.specs.declared.array.ArrayKind.{ArrayKind}
 use Rattle.sial_syntax.specs.declared.array.ArrayKind.TheVariants.{Static, Temp, Local, Distributed, Served}
 use Rattle.sial_syntax.specs.Boxes.{numbers_from, volume}
 use Rattle.sial_syntax.specs.Spaces.{Spaces, Span, Segments, Pieces, span_of, first_of, count_of, kind_of, segment, cut_of, pieces_of, box_of, blocks_of, same_kind, words_in, numbers_at}
+use Rattle.sial_syntax.specs.Widths.{most_of, widest_block}
 use Rattle.sial_syntax.specs.Tree.{Block, End, Then, Plain, Do, DoIn, Pardo, If, IfElse, Call, Get, Request, Put, Prepare, Create, Delete, Collective, SipBarrier, ServerBarrier}
 use Rattle.sial_meaning.specs.Setting.{Setting, procedure_body}
 use Rattle.sial_meaning.specs.Meaning.{call_depth}
 use Rattle.sial_meaning.specs.Statement.{reads_of}
-
--- the most of some numbers
-abbrev pub most_of : List ℕ → ℕ
-most_of numbers = fold max 0 numbers
-
--- the widest segment of an index's range, or its widest piece
-abbrev pub width_of_span : Spaces → ℕ → Span → ℕ
-width_of_span spaces index (Segments kind first count) = most_of (map (λ k. (segment spaces kind k).len) (numbers_from first count))
-width_of_span spaces index (Pieces super) =
-    most_of (map (λ k. min (cut_of spaces (kind_of spaces index)).piece (segment spaces (kind_of spaces index) k).len) (numbers_from (first_of spaces super) (count_of spaces super)))
-
--- the product of the widths of an array's dimensions
-abbrev pub widest_block : Spaces → List ℕ → ℕ
-widest_block spaces [] = 1
-widest_block spaces (i ∷ is) = width_of_span spaces i (span_of spaces i) * widest_block spaces is
 
 -- the words of the widest block of all arrays, at least 1
 abbrev pub block_width : Setting → ℕ

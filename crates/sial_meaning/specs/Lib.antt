@@ -3,6 +3,7 @@ pub mod Sight
 pub mod Right
 pub mod Setting
 pub mod Own
+pub mod Sound
 pub mod Access
 pub mod State
 pub mod LocalStep
@@ -24,6 +25,7 @@ pub mod WorkedServed
 pub mod WorkedRules
 pub mod AcceptedLaws
 pub mod ReadBackLaws
+pub mod CopyLaws
 pub mod WorkedParts
 pub mod WorkedCalls
 pub mod WorkedTraps

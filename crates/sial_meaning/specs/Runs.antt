@@ -1,12 +1,10 @@
 -- What a run of a program by one worker comes to.
 use Rattle.std.specs.Prelude.{◌≡◌, ℕ, List, [], Option, None, length}
-use Rattle.sial_syntax.specs.Shapes.{shape_fault}
-use Rattle.sial_syntax.specs.SideRules.{side_fault}
-use Rattle.sial_syntax.specs.Sides.{scalar_classes, array_sides}
 use Rattle.sial_syntax.specs.Spaces.{Cut, Span, Spaces}
 use Rattle.sial_meaning.specs.Accepted.{Refusal, first_refusal}
 use Rattle.sial_meaning.specs.Meaning.{sequential}
 use Rattle.sial_meaning.specs.Setting.{Setting}
+use Rattle.sial_meaning.specs.Sound.{IsSound}
 use Rattle.sial_meaning.specs.State.{State, Epochs}
 use Rattle.sial_meaning.specs.Statement.{Outcome, Went, Stopped}
 
@@ -39,12 +37,9 @@ abbrev pub final_of : Outcome → Final
 final_of (Went s) = final_state s
 final_of (Stopped trap s) = final_state s
 
--- a program that the rules grant, with the classes and sides that they find, runs to this end with this first refusal
+-- a program that the rules grant, with its own classes, spaces and start values, runs to this end with this first refusal
 pub record Run (g : Setting) (final : Final) (refusal : Option Refusal) : Type 0 where
-  pub shapes : shape_fault g.program ≡ None
-  pub sides : side_fault g.program ≡ None
-  pub classes : scalar_classes g.program ≡ g.scalars
-  pub locals : array_sides g.program ≡ g.sides
+  pub sound : IsSound g
   pub ends : final_of (sequential g) ≡ final
   pub refused : first_refusal g ≡ refusal
 

@@ -58,7 +58,7 @@ SecondArrayRuns = Run second_array second_array_final (Some (Clashed (record { c
 abbrev pub served_clash : Setting
 served_clash = record {
   program = record {
-    name = codes "served";
+    name = codes "served_clash";
     indices = record { name = codes "i"; line = 2; range = range.Segments kind.Index (bound.Number 1) (bound.Number 2) } ∷ [];
     arrays = record { name = codes "t"; line = 3; kind = array.Temp; dims = 0 ∷ [] } ∷ record { name = codes "v"; line = 4; kind = array.Served; dims = 0 ∷ [] } ∷ record { name = codes "w"; line = 5; kind = array.Served; dims = 0 ∷ [] } ∷ record { name = codes "d"; line = 6; kind = array.Distributed; dims = 0 ∷ [] } ∷ [];
     scalars = [];

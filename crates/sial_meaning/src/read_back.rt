@@ -1,5 +1,6 @@
 //! What assignments to a block read back: laws that proofs above cite, with nothing to run.
 
+ghost use Rattle.sial_meaning.specs.CopyLaws.{CopiesReadBack, EachIsOneOfThree, InsertionsLeaveTheRest, InsertionsReadBack, SlicesReadBack};
 ghost use Rattle.sial_meaning.specs.ReadBackLaws.{AsManyElements, CopiesByName, EachElementIsMet, InsertionsKeepOthers, InsertsByPosition, SlicesByPosition};
 
 /// Every element of the result, whatever the right side is.
@@ -14,4 +15,13 @@ pub fn copies_read_back()
     ensures slice { SlicesByPosition }
     ensures insertion { InsertsByPosition }
     ensures others { InsertionsKeepOthers }
+{}
+
+/// One block assigned to another by a statement of a program that the rules grant.
+pub fn granted_copies_read_back()
+    ensures one_of_three { EachIsOneOfThree }
+    ensures copy { CopiesReadBack }
+    ensures slice { SlicesReadBack }
+    ensures insertion { InsertionsReadBack }
+    ensures rest { InsertionsLeaveTheRest }
 {}

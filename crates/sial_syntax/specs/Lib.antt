@@ -11,6 +11,8 @@ pub mod Agreeing
 pub mod Shapes
 pub mod Sides
 pub mod SideRules
+pub mod Widths
+pub mod Resolved
 pub mod BoxLaws
 pub mod FaultyShapes
 pub mod FaultySides

@@ -1,5 +1,5 @@
 -- The limits of a program.
-use Rattle.std.specs.Prelude.{ℕ}
+use Rattle.std.specs.Prelude.{ℕ, ◌^◌}
 
 -- statements of a program
 abbrev pub most_statements : ℕ
@@ -32,3 +32,27 @@ most_name = 64
 -- bytes of a printed text
 abbrev pub most_text : ℕ
 most_text = 1024
+
+-- segments of a kind
+abbrev pub most_segments : ℕ
+most_segments = 4096
+
+-- positions of a segment, and of a piece
+abbrev pub most_length : ℕ
+most_length = 1024
+
+-- numbers of a block
+abbrev pub most_words : ℕ
+most_words = 65536
+
+-- blocks of an array that isn't temp
+abbrev pub most_blocks : ℕ
+most_blocks = 2 ^ 20
+
+-- blocks of all arrays of one kind that isn't temp
+abbrev pub most_together : ℕ
+most_together = 2 ^ 24
+
+-- tuples of a pardo's box
+abbrev pub most_box : ℕ
+most_box = 2 ^ 32

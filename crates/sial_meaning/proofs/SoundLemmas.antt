@@ -1,0 +1,128 @@
+-- Soundness of a setting, by computation.
+use Rattle.std.proofs.Common.{◌≡◌, ℕ, ◌≤◌, Bool, true, false, ◌==◌, ◌&&◌, not, nat_le, List, ◌∷◌, [], map, length, Some, None, refl, arith}
+use Rattle.std.specs.Prelude.{sum_by}
+use Rattle.std.specs.List.{list_all, enumerate_from}
+use Rattle.std.proofs.lemmas.Bool.{eqb-true}
+use Rattle.std.proofs.lemmas.Bool.Decides.{nat_tests}
+use Rattle.sial_syntax.specs.declared.array.ArrayKind.TheVariants.{Static, Local, Distributed, Served}
+use Rattle.sial_syntax.specs.declared.index.IndexDecl.{IndexDecl}
+use Rattle.sial_syntax.specs.Limits.{most_statements, most_names}
+use Rattle.sial_syntax.specs.Names.{is_name}
+use Rattle.sial_syntax.specs.Proper.{IsProper, proper_index, proper_array, proper_procedure, proper_depth, all_statements}
+use Rattle.sial_syntax.specs.Resolved.{Constants, AreSpacesBy, span_of_range, is_cut, has_segments, is_narrow, has_few_blocks, have_few_blocks, statement_within, has_small_box}
+use Rattle.sial_syntax.specs.Shapes.{shape_fault}
+use Rattle.sial_syntax.specs.SideRules.{side_fault}
+use Rattle.sial_syntax.specs.Sides.{scalar_classes, array_sides}
+use Rattle.sial_syntax.specs.Spaces.{Spaces}
+use Rattle.sial_syntax.specs.Tree.{Tree}
+use Rattle.sial_syntax.specs.Visits.{Visit, all_visits}
+use Rattle.sial_meaning.specs.Setting.{Setting}
+use Rattle.sial_meaning.specs.Sound.{IsSound, is_number, is_start, given_twice}
+use Rattle.sial_meaning.proofs.PairLemmas.{never, first-holds, second-holds}
+
+-- whether all of a row of tests hold
+abbrev pub hold : List Bool → Bool
+hold [] = true
+hold (b ∷ bs) = b && hold bs
+
+-- whether a tree is proper
+abbrev pub is_proper : Tree → List Bool
+is_proper p =
+    is_name p.name
+    ∷ list_all proper_index (enumerate_from 0 p.indices)
+    ∷ list_all (proper_array p) p.arrays
+    ∷ list_all is_name p.scalars
+    ∷ list_all (proper_procedure p) p.procedures
+    ∷ proper_depth p p.body
+    ∷ nat_le (length p.indices) most_names
+    ∷ nat_le (length p.arrays) most_names
+    ∷ nat_le (length p.scalars) most_names
+    ∷ nat_le (length p.procedures) most_names
+    ∷ nat_le (all_statements p) most_statements
+    ∷ []
+
+-- whether spaces are a program's by these constants, but for the spans
+abbrev pub are_spaces : Constants → Tree → Spaces → List Bool
+are_spaces constants p spaces =
+    list_all is_cut (spaces.ao ∷ spaces.mo ∷ spaces.moa ∷ spaces.mob ∷ [])
+    ∷ list_all (λ (i : IndexDecl). has_segments constants spaces i.range) p.indices
+    ∷ list_all (is_narrow spaces) p.arrays
+    ∷ list_all (has_few_blocks spaces) p.arrays
+    ∷ list_all (have_few_blocks p spaces) (Static ∷ Local ∷ Distributed ∷ Served ∷ [])
+    ∷ list_all (λ (v : Visit). statement_within p spaces v.form) (all_visits p)
+    ∷ list_all (λ (v : Visit). has_small_box spaces v.form) (all_visits p)
+    ∷ []
+
+-- whether start values fit
+abbrev pub are_starts : Setting → List Bool
+are_starts g =
+    (length g.numbers == length g.program.scalars) ∷ list_all is_number g.numbers ∷ list_all (is_start g) g.blocks ∷ not (given_twice g.blocks) ∷ []
+
+-- each test of a row holds
+abbrev Each : List Bool → Type 0
+Each [] = Unit {0}
+Each (b ∷ bs) = (b ≡ true) × Each bs
+
+each : (bs : List Bool) → hold bs ≡ true → Each bs
+each [] all = tt
+each (b ∷ bs) all = (first-holds b (hold bs) all, each bs (second-holds b (hold bs) all))
+
+-- a number that was tested against another
+at-most : (a b : ℕ) → nat_le a b ≡ true → a ≤ b
+at-most a b is = grind (arith, nat_tests)
+
+-- a test that fails where its opposite holds
+fails : (b : Bool) → not b ≡ true → b ≡ false
+fails true is = absurd (never is)
+fails false is = refl
+
+proper-by : (p : Tree) → hold (is_proper p) ≡ true → IsProper p
+proper-by p all =
+    let e = each (is_proper p) all in
+    let f = e.1.1.1.1.1.1 in
+    record {
+      name = e.0;
+      indices = e.1.0;
+      arrays = e.1.1.0;
+      scalars = e.1.1.1.0;
+      procedures = e.1.1.1.1.0;
+      body = e.1.1.1.1.1.0;
+      few_indices = at-most (length p.indices) most_names f.0;
+      few_arrays = at-most (length p.arrays) most_names f.1.0;
+      few_scalars = at-most (length p.scalars) most_names f.1.1.0;
+      few_procedures = at-most (length p.procedures) most_names f.1.1.1.0;
+      few_statements = at-most (all_statements p) most_statements f.1.1.1.1.0
+    }
+
+spaces-by : (constants : Constants) (p : Tree) (spaces : Spaces) → hold (are_spaces constants p spaces) ≡ true → map Some spaces.spans ≡ map (λ (i : IndexDecl). span_of_range constants i.range) p.indices
+    → AreSpacesBy constants p spaces
+spaces-by constants p spaces all spans =
+    let e = each (are_spaces constants p spaces) all in
+    record {
+      cuts = e.0;
+      spans = spans;
+      segments = e.1.0;
+      narrow = e.1.1.0;
+      few = e.1.1.1.0;
+      together = e.1.1.1.1.0;
+      within = e.1.1.1.1.1.0;
+      boxes = e.1.1.1.1.1.1.0
+    }
+
+-- a setting is sound where each of these comes out so
+pub sound-by : (g : Setting) (constants : Constants) → shape_fault g.program ≡ None → side_fault g.program ≡ None → hold (is_proper g.program) ≡ true
+    → hold (are_spaces constants g.program g.spaces) ≡ true → map Some g.spaces.spans ≡ map (λ (i : IndexDecl). span_of_range constants i.range) g.program.indices
+    → scalar_classes g.program ≡ g.scalars → array_sides g.program ≡ g.sides → hold (are_starts g) ≡ true → IsSound g
+sound-by g constants shapes sides proper spaces spans classes locals starts =
+    let e = each (are_starts g) starts in
+    record {
+      proper = proper-by g.program proper;
+      granted = record { shapes = shapes; sides = sides };
+      classes = classes;
+      sides = locals;
+      spaces = (constants, spaces-by constants g.program g.spaces spaces spans);
+      count = eqb-true (length g.numbers) (length g.program.scalars) e.0;
+      numbers = e.1.0;
+      blocks = e.1.1.0;
+      once = fails (given_twice g.blocks) e.1.1.1.0
+    }
