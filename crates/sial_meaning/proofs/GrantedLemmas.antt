@@ -1,5 +1,5 @@
 -- What a sound setting gives of its copies: the rules, taken apart, and spaces that cut as the tree says.
-use Rattle.std.proofs.Common.{◌≡◌, ℕ, zero, suc, ◌+◌, ◌-◌, ◌<◌, List, [], ◌∷◌, ◌++◌, map, filter, length, slice_index_or, Bool, true, false, cond, ◌==◌, ◌&&◌, ◌||◌, not, nat_lt, Option, Some, None, is_some, refl, sym, ap, ◌∙◌, eqb-true, arith}
+use Rattle.std.proofs.Common.{◌≡◌, ℕ, zero, suc, ◌+◌, ◌-◌, ◌<◌, List, [], ◌∷◌, ◌++◌, map, filter, length, slice_index_or, Bool, true, false, ◌==◌, ◌&&◌, ◌||◌, not, nat_lt, Option, Some, None, is_some, refl, sym, ap, ◌∙◌, eqb-true, arith}
 use Rattle.std.specs.Prelude.{if◌then◌else◌, flat_map}
 use Rattle.std.specs.List.{Contains, list_any}
 use Rattle.sial_syntax.specs.declared.index.IndexDecl.{IndexDecl}
@@ -14,12 +14,12 @@ use Rattle.sial_syntax.specs.declared.operand.Op.{Op}
 use Rattle.sial_syntax.specs.declared.operand.Operand.TheVariants as operand
 use Rattle.sial_syntax.specs.declared.operand.Right.TheVariants.{One}
 use Rattle.sial_syntax.specs.declared.operand.Target.TheVariants as target
-use Rattle.sial_syntax.specs.Agreeing.{has_twice, same_set, all_in, range_in, range_super, is_number, is_sub, is_sub_of, cuts_all, copy_agrees}
+use Rattle.sial_syntax.specs.Agreeing.{has_twice, range_in, range_super, is_number, is_sub, is_sub_of, cuts_all, copy_agrees}
 use Rattle.sial_syntax.specs.Parts.{blocks_named, slots_named, slot_index}
 use Rattle.sial_syntax.specs.Resolved.{Constants, bound_number, segments_between, span_between, span_of_range}
-use Rattle.sial_syntax.specs.Shapes.{Fault, broken_at, shape_faults, declarations_broken, breaks_unbound, breaks_rebound, breaks_repeated, breaks_kind, breaks_indices, breaks_writable, index_breaks_kind, array_breaks_kind, cuts_sub, wrong_rank, wrong_slot_rank, disagrees}
+use Rattle.sial_syntax.specs.Shapes.{broken_at, shape_faults, declarations_broken, breaks_unbound, breaks_rebound, breaks_repeated, breaks_kind, breaks_indices, breaks_writable, index_breaks_kind, array_breaks_kind, cuts_sub, wrong_rank, wrong_slot_rank, disagrees}
 use Rattle.sial_syntax.specs.SideRules.{IsGranted}
-use Rattle.sial_syntax.specs.Spaces.{Spaces, Span, Segments, Pieces, span_of}
+use Rattle.sial_syntax.specs.Spaces.{Span, Segments, Pieces}
 use Rattle.sial_syntax.specs.Tree.{Tree, Plain, Assign}
 use Rattle.sial_syntax.specs.Visits.{Visit, all_visits}
 use Rattle.sial_meaning.specs.CopyLaws.{Copies}
@@ -55,7 +55,7 @@ rules-unbroken p granted =
     record {
       repeated = map_none (λ (v : Visit). record { line = v.line; rule = 3 }) (filter (breaks_repeated p) (all_visits p)) three;
       declared = map_none (λ (i : IndexDecl). record { line = i.line; rule = 4 }) (filter (index_breaks_kind p) p.indices) (append_none of_indices of_arrays four.1).0;
-      indices = map_none (λ (v : Visit). record { line = v.line; rule = 5 }) (filter (breaks_indices p) (all_visits p)) five.1
+      indices = map_none (λ (v : Visit). record { line = v.line; rule = 5 }) (filter (breaks_indices p) (all_visits p)) five.1;
     }
 
 -- a test that keeps no entry fails at each
@@ -100,7 +100,7 @@ copy-agrees p to op from unbroken (v, has, is) =
     holds (copy_agrees p to.at from.at) (ap (disagrees p) (sym is) ∙ agrees)
 
 -- what is there is one thing
-one-some : {X : Type 0} (x y : X) → ◌≡◌ {A = Option X} (Some x) (Some y) → x ≡ y
+pub one-some : {X : Type 0} (x y : X) → ◌≡◌ {A = Option X} (Some x) (Some y) → x ≡ y
 one-some x y same = cc
 
 -- no span of segments is pieces
@@ -121,11 +121,11 @@ span-cuts constants (range.Segments kind lo hi) s w same = between-segments kind
 span-cuts constants (range.Sub super) s w same = ap (λ x. is_pieces_of x w) (one-some s (Pieces super) same)
 
 -- the first of two lists that are one
-same-first : {X : Type 0} (x y : X) (xs ys : List X) → ◌≡◌ {A = List X} (x ∷ xs) (y ∷ ys) → x ≡ y
+pub same-first : {X : Type 0} (x y : X) (xs ys : List X) → ◌≡◌ {A = List X} (x ∷ xs) (y ∷ ys) → x ≡ y
 same-first x y xs ys same = cc
 
 -- the others
-same-rest : {X : Type 0} (x y : X) (xs ys : List X) → ◌≡◌ {A = List X} (x ∷ xs) (y ∷ ys) → xs ≡ ys
+pub same-rest : {X : Type 0} (x y : X) (xs ys : List X) → ◌≡◌ {A = List X} (x ∷ xs) (y ∷ ys) → xs ≡ ys
 same-rest x y xs ys same = cc
 
 -- what stands for an index that isn't declared

@@ -12,6 +12,9 @@ pub mod RestLemmasTurns
 pub mod SoundLemmas
 pub mod GrantedLemmas
 pub mod CopyLemmas
+pub mod SegmentLemmas
+pub mod LookLemmas
+pub mod WholeLemmas
 pub mod WorkedFirstRuns
 pub mod WorkedSmallRuns
 pub mod WorkedClashesRuns

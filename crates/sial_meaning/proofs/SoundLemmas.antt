@@ -1,6 +1,5 @@
 -- Soundness of a setting, by computation.
 use Rattle.std.proofs.Common.{◌≡◌, ℕ, ◌≤◌, Bool, true, false, ◌==◌, ◌&&◌, not, nat_le, List, ◌∷◌, [], map, length, Some, None, refl, arith}
-use Rattle.std.specs.Prelude.{sum_by}
 use Rattle.std.specs.List.{list_all, enumerate_from}
 use Rattle.std.proofs.lemmas.Bool.{eqb-true}
 use Rattle.std.proofs.lemmas.Bool.Decides.{nat_tests}
@@ -91,7 +90,7 @@ proper-by p all =
       few_arrays = at-most (length p.arrays) most_names f.1.0;
       few_scalars = at-most (length p.scalars) most_names f.1.1.0;
       few_procedures = at-most (length p.procedures) most_names f.1.1.1.0;
-      few_statements = at-most (all_statements p) most_statements f.1.1.1.1.0
+      few_statements = at-most (all_statements p) most_statements f.1.1.1.1.0;
     }
 
 spaces-by : (constants : Constants) (p : Tree) (spaces : Spaces) → hold (are_spaces constants p spaces) ≡ true → map Some spaces.spans ≡ map (λ (i : IndexDecl). span_of_range constants i.range) p.indices
@@ -106,7 +105,7 @@ spaces-by constants p spaces all spans =
       few = e.1.1.1.0;
       together = e.1.1.1.1.0;
       within = e.1.1.1.1.1.0;
-      boxes = e.1.1.1.1.1.1.0
+      boxes = e.1.1.1.1.1.1.0;
     }
 
 -- a setting is sound where each of these comes out so
@@ -124,5 +123,5 @@ sound-by g constants shapes sides proper spaces spans classes locals starts =
       count = eqb-true (length g.numbers) (length g.program.scalars) e.0;
       numbers = e.1.0;
       blocks = e.1.1.0;
-      once = fails (given_twice g.blocks) e.1.1.1.0
+      once = fails (given_twice g.blocks) e.1.1.1.0;
     }

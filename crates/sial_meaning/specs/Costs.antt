@@ -1,10 +1,10 @@
 -- What a checker of the rule needs: room for blocks, and steps.
-use Rattle.std.specs.Prelude.{ℕ, zero, suc, ◌+◌, ◌*◌, ◌^◌, min, max, List, [], ◌∷◌, map, filter, length, sum_by, fold, ◌||◌}
+use Rattle.std.specs.Prelude.{ℕ, zero, suc, ◌+◌, ◌*◌, ◌^◌, min, max, List, map, filter, length, sum_by, ◌||◌}
 use Rattle.sial_syntax.specs.declared.array.ArrayDecl.{ArrayDecl}
 use Rattle.sial_syntax.specs.declared.array.ArrayKind.{ArrayKind}
 use Rattle.sial_syntax.specs.declared.array.ArrayKind.TheVariants.{Static, Temp, Local, Distributed, Served}
 use Rattle.sial_syntax.specs.Boxes.{numbers_from, volume}
-use Rattle.sial_syntax.specs.Spaces.{Spaces, Span, Segments, Pieces, span_of, first_of, count_of, kind_of, segment, cut_of, pieces_of, box_of, blocks_of, same_kind, words_in, numbers_at}
+use Rattle.sial_syntax.specs.Spaces.{Spaces, first_of, count_of, pieces_of, box_of, blocks_of, same_kind, words_in, numbers_at}
 use Rattle.sial_syntax.specs.Widths.{most_of, widest_block}
 use Rattle.sial_syntax.specs.Tree.{Block, End, Then, Plain, Do, DoIn, Pardo, If, IfElse, Call, Get, Request, Put, Prepare, Create, Delete, Collective, SipBarrier, ServerBarrier}
 use Rattle.sial_meaning.specs.Setting.{Setting, procedure_body}

@@ -24,6 +24,8 @@ pub mod WorkedPardos
 pub mod WorkedServed
 pub mod WorkedRules
 pub mod AcceptedLaws
+pub mod Whole
+pub mod WholeLaws
 pub mod ReadBackLaws
 pub mod CopyLaws
 pub mod WorkedParts

@@ -1,5 +1,5 @@
 -- What a run of a program by one worker comes to.
-use Rattle.std.specs.Prelude.{◌≡◌, ℕ, List, [], Option, None, length}
+use Rattle.std.specs.Prelude.{◌≡◌, ℕ, List, [], Option, length}
 use Rattle.sial_syntax.specs.Spaces.{Cut, Span, Spaces}
 use Rattle.sial_meaning.specs.Accepted.{Refusal, first_refusal}
 use Rattle.sial_meaning.specs.Meaning.{sequential}

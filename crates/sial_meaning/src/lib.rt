@@ -9,6 +9,7 @@ pub mod programs;
 pub mod read_back;
 mod standing;
 mod trap;
+pub mod whole;
 
 pub use clash::Clash;
 pub use standing::stand_together;
