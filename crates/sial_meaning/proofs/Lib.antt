@@ -35,3 +35,4 @@ pub mod MarkLemmas
 pub mod WorkedUnsetRuns
 pub mod EpochOrderLemmas
 pub mod WorkedLaterRuns
+pub mod WorkedSpacesRuns

@@ -34,3 +34,4 @@ pub mod WorkedTraps
 pub mod MarkLaws
 pub mod WorkedUnset
 pub mod WorkedLater
+pub mod WorkedSpaces

@@ -3,6 +3,7 @@
 ghost use Rattle.sial_meaning.specs.WorkedCalls.{GivenRuns, NestedRuns, RoomsRuns, WheresRuns};
 ghost use Rattle.sial_meaning.specs.WorkedLater.{SecondArrayRuns, ServedClashRuns};
 ghost use Rattle.sial_meaning.specs.WorkedParts.{FormsRuns, PartsRuns};
+ghost use Rattle.sial_meaning.specs.WorkedSpaces.{NamedRuns, SpacesAreRefused};
 ghost use Rattle.sial_meaning.specs.WorkedTraps.{AllocatedTwiceRuns, DeletedPutRuns, DeletedTwiceRuns, MissingRuns, NotAllocatedRuns};
 ghost use Rattle.sial_meaning.specs.WorkedUnset.{InsertedRuns, KeptRuns, OtherBlockRuns, PrivateRuns, UnsetAfterRuns};
 
@@ -26,4 +27,10 @@ pub fn feature_programs()
     ensures not_allocated { NotAllocatedRuns }
     ensures second_array { SecondArrayRuns }
     ensures served_clash { ServedClashRuns }
+    ensures named { NamedRuns }
+{}
+
+/// Spaces that don't fit a program: none of them is the program's.
+pub fn other_spaces()
+    ensures { SpacesAreRefused }
 {}

@@ -3,6 +3,7 @@ use Rattle.sial_meaning.proofs.WorkedCallsRuns.{nested-runs, wheres-runs, rooms-
 use Rattle.sial_meaning.proofs.WorkedUnsetRuns.{kept-runs, other-block-runs, private-runs, unset-after-runs, inserted-runs}
 use Rattle.sial_meaning.proofs.WorkedTrapsRuns.{missing-runs, deleted-put-runs, deleted-twice-runs, allocated-twice-runs, not-allocated-runs}
 use Rattle.sial_meaning.proofs.WorkedLaterRuns.{second-array-runs, served-clash-runs}
+use Rattle.sial_meaning.proofs.WorkedSpacesRuns.{named-runs}
 use Rattle.sial_meaning.proofs.features.feature_programs.Goals as goal
 
 pub returns : goal.returns
@@ -25,4 +26,5 @@ returns c = record {
   not_allocated = not-allocated-runs;
   second_array = second-array-runs;
   served_clash = served-clash-runs;
+  named = named-runs;
 }
