@@ -15,6 +15,14 @@ pub mod CopyLemmas
 pub mod SegmentLemmas
 pub mod LookLemmas
 pub mod WholeLemmas
+pub mod GrantedVisits
+pub mod RangeLemmas
+pub mod FitLemmas
+pub mod OwnLemmas
+pub mod RunLemmas
+pub mod WholeStatements
+pub mod WholeEffects
+pub mod WholeCreated
 pub mod WorkedFirstRuns
 pub mod WorkedSmallRuns
 pub mod WorkedClashesRuns

@@ -26,6 +26,7 @@ pub mod WorkedRules
 pub mod AcceptedLaws
 pub mod Whole
 pub mod WholeLaws
+pub mod WholeStates
 pub mod ReadBackLaws
 pub mod CopyLaws
 pub mod WorkedParts
