@@ -1,5 +1,5 @@
 -- Blocks that a statement names, where their indices are bound within their ranges: which block each is, and how long.
-use Rattle.std.proofs.Common.{◌≡◌, ℕ, ◌<◌, ◌⊎◌, inl, inr, List, [], ◌∷◌, ◌++◌, map, length, slice_index_or, Bool, true, false, ◌==◌, ◌&&◌, ◌||◌, not, refl, sym, ap, ◌∙◌, eqb-true}
+use Rattle.std.proofs.Common.{◌≡◌, ℕ, ◌<◌, ◌⊎◌, inl, inr, List, [], ◌∷◌, ◌++◌, map, length, Bool, true, false, ◌==◌, ◌&&◌, ◌||◌, not, refl, sym, ap, ◌∙◌, eqb-true}
 use Rattle.std.specs.Prelude.{flat_map}
 use Rattle.std.specs.List.{list_all, list_any}
 use Rattle.sial_syntax.specs.declared.array.ArrayKind.TheVariants.{Temp}
@@ -10,14 +10,13 @@ use Rattle.sial_syntax.specs.Parts.{blocks_named, slots_named, slotted_array}
 use Rattle.sial_syntax.specs.Resolved.{indices_within, slots_within}
 use Rattle.sial_syntax.specs.Shapes.{wrong_loop, wrong_where, wrong_dims, wrong_slots, wrong_array, wrong_form, wrong_rank, wrong_slot_rank, disagrees}
 use Rattle.sial_syntax.specs.Spaces.{extent, same_kind, rank_of, numbers_at}
-use Rattle.sial_syntax.specs.Tree.{Plain}
 use Rattle.sial_syntax.specs.Visits.{Visit}
 use Rattle.sial_syntax.proofs.RankLemmas.{rank-within, numbers-of-rank}
 use Rattle.sial_meaning.specs.Own.{Own, value_of, members_of, number_of}
 use Rattle.sial_meaning.specs.Setting.{Setting, array_kind, dims_of, block_count, block_words}
 use Rattle.sial_meaning.specs.Sight.{lengths}
 use Rattle.sial_meaning.specs.Sound.{IsSound}
-use Rattle.sial_meaning.specs.Whole.{extents_of, block_extents, held_extents}
+use Rattle.sial_meaning.specs.Whole.{extents_of, held_extents}
 use Rattle.sial_meaning.proofs.GrantedVisits.{Good}
 use Rattle.sial_meaning.proofs.PairLemmas.{never, first-holds, second-holds}
 use Rattle.sial_meaning.proofs.RangeLemmas.{InRange, array-whole, segments-named, members-named}

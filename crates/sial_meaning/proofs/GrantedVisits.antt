@@ -1,5 +1,5 @@
 -- What the rules give of each statement where it stands, and of the indices that are bound there.
-use Rattle.std.proofs.Common.{◌≡◌, ℕ, zero, suc, List, [], ◌∷◌, ◌++◌, map, filter, flat_map, Bool, true, false, ◌&&◌, nat_le, slice_index_or, refl, sym, ap, ◌∙◌, IsTrue}
+use Rattle.std.proofs.Common.{◌≡◌, ℕ, zero, suc, List, [], ◌∷◌, ◌++◌, map, filter, flat_map, Bool, true, false, ◌&&◌, nat_le, slice_index_or, IsTrue}
 use Rattle.std.specs.List.{list_all}
 use Rattle.sial_syntax.specs.declared.array.ArrayDecl.{ArrayDecl}
 use Rattle.sial_syntax.specs.declared.index.IndexDecl.{IndexDecl}
@@ -7,7 +7,7 @@ use Rattle.sial_syntax.specs.Limits.{most_nesting, most_pardo}
 use Rattle.sial_syntax.specs.Names.{is_name}
 use Rattle.sial_syntax.specs.Proper.{IsProper, has_index, has_length, proper_body, proper_form, proper_cond, proper_depth, proper_procedure, body_nesting}
 use Rattle.sial_syntax.specs.Resolved.{statement_within}
-use Rattle.sial_syntax.specs.Shapes.{Fault, broken_at, shape_faults, declarations_broken, breaks_unbound, breaks_rebound, breaks_repeated, breaks_kind, breaks_indices, breaks_writable, index_breaks_kind, array_breaks_kind}
+use Rattle.sial_syntax.specs.Shapes.{broken_at, shape_faults, declarations_broken, breaks_unbound, breaks_rebound, breaks_repeated, breaks_kind, breaks_indices, breaks_writable, index_breaks_kind, array_breaks_kind}
 use Rattle.sial_syntax.specs.SideRules.{IsGranted}
 use Rattle.sial_syntax.specs.Tree.{Tree, Procedure, Block, End, Then, Plain, Do, DoIn, Pardo, If, IfElse, Call, Assign, Get, Request, Put, Prepare, Create, Delete, Allocate, Deallocate, Collective, SipBarrier, ServerBarrier, Print, PrintScalar, Integrals}
 use Rattle.sial_syntax.specs.Visits.{Visit, visits, inner_visits, body_visits, all_visits}

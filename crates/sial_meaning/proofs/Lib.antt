@@ -23,6 +23,9 @@ pub mod RunLemmas
 pub mod WholeStatements
 pub mod WholeEffects
 pub mod WholeCreated
+pub mod WholeStart
+pub mod WholeSteps
+pub mod WholeMaps
 pub mod WorkedFirstRuns
 pub mod WorkedSmallRuns
 pub mod WorkedClashesRuns

@@ -1,8 +1,6 @@
 -- What a worker holds of its own keeps its lengths through every statement.
-use Rattle.std.proofs.Common.{◌≡◌, ℕ, zero, suc, ◌<◌, ◌%◌, ◌^◌, ◌⊎◌, inl, inr, List, [], ◌∷◌, map, length, slice_index_or, slice_set, replicate, Bool, true, false, ◌==◌, ◌&&◌, ◌||◌, not, Option, Some, None, Ok, Err, refl, sym, ap, ◌∙◌, subst, eqb-true, arith}
+use Rattle.std.proofs.Common.{◌≡◌, ℕ, zero, suc, ◌%◌, ◌^◌, ◌⊎◌, inl, inr, List, [], ◌∷◌, map, length, slice_index_or, slice_set, replicate, Option, Some, None, refl, sym, ap, ◌∙◌, subst}
 use Rattle.std.proofs.lemmas.List.{length-map, length-set}
-use Rattle.std.specs.Prelude.{if◌then◌else◌, flat_map}
-use Rattle.std.specs.List.{list_any}
 use Rattle.sial_syntax.specs.declared.array.ArrayKind.{ArrayKind}
 use Rattle.sial_syntax.specs.declared.array.ArrayKind.TheVariants.{Static, Temp, Local, Distributed, Served}
 use Rattle.sial_syntax.specs.declared.operand.BlockRef.{BlockRef}
@@ -10,7 +8,7 @@ use Rattle.sial_syntax.specs.Boxes.{volume, tuples}
 use Rattle.sial_syntax.specs.Spaces.{extent, same_kind}
 use Rattle.sial_syntax.proofs.BoxLemmas.{tuples-counted}
 use Rattle.sial_meaning.specs.LocalStep.{with_words, integrals, integral, whole_positions, all_allocated, all_deallocated}
-use Rattle.sial_meaning.specs.Own.{Own, Held, sight, members_of, number_of, static_block, with_static, temp_of, with_temp, local_block, with_local}
+use Rattle.sial_meaning.specs.Own.{Own, Held, sight, members_of, number_of, with_static, with_temp, with_local}
 use Rattle.sial_meaning.specs.Setting.{Setting, array_kind, dims_of, block_count, block_words, zeros}
 use Rattle.sial_meaning.specs.Sight.{lengths}
 use Rattle.sial_meaning.specs.Sound.{IsSound}

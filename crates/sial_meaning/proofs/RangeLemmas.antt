@@ -1,25 +1,23 @@
 -- Named blocks whose indices are bound within their ranges: which block of the array each is, and where it lies.
-use Rattle.std.proofs.Common.{◌≡◌, ℕ, zero, suc, ◌+◌, ◌-◌, ◌<◌, ◌≤◌, ◌⊎◌, inl, inr, List, [], ◌∷◌, map, filter, length, slice_index_or, Bool, true, false, ◌==◌, ◌&&◌, ◌||◌, not, nat_lt, nat_le, Option, Some, None, is_some, refl, sym, ap, ◌∙◌, subst, eqb-true, arith}
+use Rattle.std.proofs.Common.{◌≡◌, ℕ, zero, suc, ◌+◌, ◌-◌, ◌<◌, ◌≤◌, ◌⊎◌, inl, inr, List, [], ◌∷◌, map, filter, length, slice_index_or, Bool, true, false, ◌==◌, ◌&&◌, not, nat_lt, nat_le, Option, Some, None, is_some, refl, sym, ap, ◌∙◌, subst, eqb-true, arith}
 use Rattle.std.proofs.lemmas.Bool.Decides.{nat_tests}
 use Rattle.std.specs.Prelude.{if◌then◌else◌}
-use Rattle.std.specs.List.{list_all, list_any}
+use Rattle.std.specs.List.{list_any}
 use Rattle.sial_syntax.specs.declared.array.ArrayDecl.{ArrayDecl}
-use Rattle.sial_syntax.specs.declared.array.ArrayKind.{ArrayKind}
-use Rattle.sial_syntax.specs.declared.array.ArrayKind.TheVariants.{Static, Temp, Local, Distributed, Served}
+use Rattle.sial_syntax.specs.declared.array.ArrayKind.TheVariants.{Temp}
 use Rattle.sial_syntax.specs.declared.index.Bound.TheVariants.{Number}
 use Rattle.sial_syntax.specs.declared.index.IndexDecl.{IndexDecl}
 use Rattle.sial_syntax.specs.declared.index.Kind.{Kind}
 use Rattle.sial_syntax.specs.declared.index.Kind.TheVariants.{Ao, Mo, Moa, Mob, Index}
 use Rattle.sial_syntax.specs.declared.index.Range.{Range}
 use Rattle.sial_syntax.specs.declared.index.Range.TheVariants as range
-use Rattle.sial_syntax.specs.declared.operand.BlockRef.{BlockRef}
-use Rattle.sial_syntax.specs.Agreeing.{contains, all_in, range_in, range_super, range_kind, own_kind as own_range_kind, is_kind, is_sub, same_flag, may_stand_for, fits_dims, array_in}
+use Rattle.sial_syntax.specs.Agreeing.{contains, all_in, range_in, range_super, range_kind, own_kind as own_range_kind, is_kind, is_sub, same_flag, may_stand_for, fits_dims}
 use Rattle.sial_syntax.specs.BoxLaws.{AreSegments}
 use Rattle.sial_syntax.specs.Resolved.{Constants, bound_number, segments_between, span_between, span_of_range, lies_in, whole_index, itself_or_super, range_within, indices_within}
 use Rattle.sial_syntax.specs.Shapes.{array_breaks_kind}
-use Rattle.sial_syntax.specs.Spaces.{Spaces, Extent, Span, Segments, Pieces, span_of, span_first, span_count, first_of, count_of, own_kind, span_kind, kind_of, segment, piece_of, piece_at, cut_of, extent, span_extent, same_kind}
+use Rattle.sial_syntax.specs.Spaces.{Spaces, Span, Segments, Pieces, span_of, span_first, span_count, first_of, count_of, own_kind, span_kind, kind_of, segment, piece_at, cut_of, extent, span_extent, same_kind}
 use Rattle.sial_syntax.specs.Tree.{Tree}
-use Rattle.sial_meaning.specs.Own.{Own, value_of, member_of}
+use Rattle.sial_meaning.specs.Own.{Own, member_of}
 use Rattle.sial_meaning.specs.Setting.{Setting, array_kind, dims_of}
 use Rattle.sial_meaning.specs.Sound.{IsSound}
 use Rattle.sial_meaning.specs.Whole.{extents_of, member_extent, held_extents}

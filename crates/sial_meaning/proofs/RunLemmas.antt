@@ -1,14 +1,13 @@
 -- Runs of blocks: the blocks of an array among those of its class, replaced together.
-use Rattle.std.proofs.Common.{◌≡◌, ℕ, zero, suc, ◌+◌, ◌<◌, ◌≤◌, ◌⊎◌, inl, inr, List, [], ◌∷◌, ◌++◌, map, filter, take, length, slice_index_or, slice_set, replicate, Bool, true, false, cond, refl, sym, ap, ◌∙◌, arith}
+use Rattle.std.proofs.Common.{◌≡◌, ℕ, zero, suc, ◌+◌, ◌<◌, ◌≤◌, ◌⊎◌, inl, inr, List, [], ◌∷◌, filter, take, length, slice_index_or, slice_set, true, false, cond, refl, sym, ap, ◌∙◌, arith}
 use Rattle.std.proofs.lemmas.List.{length-set, get_or-set_same, get_or-set_other}
 use Rattle.std.proofs.lemmas.List.Sums.{sum_by-cons}
-use Rattle.std.specs.Prelude.{sum_by, flat_map}
+use Rattle.std.specs.Prelude.{sum_by}
 use Rattle.sial_syntax.specs.declared.array.ArrayDecl.{ArrayDecl}
 use Rattle.sial_syntax.specs.declared.array.ArrayKind.{ArrayKind}
 use Rattle.sial_syntax.specs.declared.array.ArrayKind.TheVariants.{Static, Temp, Local, Distributed, Served}
-use Rattle.sial_syntax.specs.Boxes.{numbers_from}
 use Rattle.sial_syntax.specs.Spaces.{Spaces, blocks_of, blocks_together, same_kind}
-use Rattle.sial_meaning.specs.Setting.{Setting, array_of, array_kind, block_count, first_of_class, no_array}
+use Rattle.sial_meaning.specs.Setting.{Setting, array_kind, block_count, first_of_class, no_array}
 use Rattle.sial_meaning.specs.State.{with_run}
 use Rattle.sial_meaning.proofs.PairLemmas.{never}
 
@@ -47,10 +46,10 @@ kind-self Distributed = refl
 kind-self Served = refl
 
 -- the blocks of one more array: counted where it is of the kind
-abbrev counted : Spaces → ArrayKind → ArrayDecl → ℕ
+abbrev pub counted : Spaces → ArrayKind → ArrayDecl → ℕ
 counted spaces kind x = cond (same_kind x.kind kind) (blocks_of spaces x) 0
 
-one-more : (spaces : Spaces) (kind : ArrayKind) (x : ArrayDecl) (xs : List ArrayDecl) → blocks_together spaces kind (x ∷ xs) ≡ counted spaces kind x + blocks_together spaces kind xs
+pub one-more : (spaces : Spaces) (kind : ArrayKind) (x : ArrayDecl) (xs : List ArrayDecl) → blocks_together spaces kind (x ∷ xs) ≡ counted spaces kind x + blocks_together spaces kind xs
 one-more spaces kind x xs =
     elim (same_kind x.kind kind) as (λ b. sum_by (blocks_of spaces) (cond b (x ∷ filter (λ (a : ArrayDecl). same_kind a.kind kind) xs) (filter (λ (a : ArrayDecl). same_kind a.kind kind) xs)) ≡ cond b (blocks_of spaces x) 0 + blocks_together spaces kind xs) [
       | true ↦ sum_by-cons (blocks_of spaces) x (filter (λ (a : ArrayDecl). same_kind a.kind kind) xs)
@@ -78,7 +77,7 @@ ends-before-next spaces kind (x ∷ xs) (suc a) (suc b) below is other =
     omega (arith, rest, first, second)
 
 -- all of a list
-take-whole : {X : Type 0} (xs : List X) → take (length xs) xs ≡ xs
+pub take-whole : {X : Type 0} (xs : List X) → take (length xs) xs ≡ xs
 take-whole [] = refl
 take-whole (x ∷ xs) = ap (λ rest. x ∷ rest) (take-whole xs)
 

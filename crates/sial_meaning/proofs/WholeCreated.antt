@@ -1,24 +1,20 @@
 -- Arrays created and deleted, and every statement that holds no other, leave a whole state.
-use Rattle.std.proofs.Common.{◌≡◌, ℕ, zero, suc, ◌+◌, ◌<◌, ◌≤◌, ◌⊎◌, List, [], ◌∷◌, map, length, slice_index_or, slice_set, replicate, Bool, true, false, ◌==◌, not, Option, Some, None, refl, sym, ap, ◌∙◌, subst, eqb-true, arith}
+use Rattle.std.proofs.Common.{◌≡◌, ℕ, zero, suc, ◌+◌, ◌<◌, ◌≤◌, ◌⊎◌, List, [], ◌∷◌, map, length, slice_index_or, slice_set, replicate, Bool, true, false, ◌==◌, Option, Some, None, refl, sym, ap, ◌∙◌, subst, eqb-true, arith}
 use Rattle.std.proofs.lemmas.Bool.{eq-eqb}
 use Rattle.std.proofs.lemmas.List.{length-map, length-set, get_or-set_same, get_or-set_other, get_or-replicate, length-replicate}
-use Rattle.sial_syntax.specs.declared.access.Class.TheVariants as class
-use Rattle.sial_syntax.specs.declared.array.ArrayKind.TheVariants.{Temp, Distributed, Served}
+use Rattle.sial_syntax.specs.declared.array.ArrayKind.TheVariants.{Distributed}
 use Rattle.sial_syntax.specs.Agreeing.{has_kind}
 use Rattle.sial_syntax.specs.Boxes.{numbers_from}
-use Rattle.sial_syntax.specs.Spaces.{same_kind, blocks_together}
-use Rattle.sial_syntax.specs.Tree.{Plain, Do, DoIn, Pardo, If, IfElse, Call, Assign, Get, Request, Put, Prepare, Create, Delete, Allocate, Deallocate, Collective, SipBarrier, ServerBarrier, Print, PrintScalar, Integrals}
-use Rattle.sial_syntax.specs.Visits.{Visit}
+use Rattle.sial_syntax.specs.Tree.{Plain, Get, Request, Put, Prepare, Create, Delete, Collective, SipBarrier, ServerBarrier}
 use Rattle.sial_syntax.proofs.BoxLemmas.{numbers-length}
 use Rattle.sial_meaning.specs.declared.trap.TrapKind.{TrapKind}
-use Rattle.sial_meaning.specs.LocalStep.{words_of, local_step}
-use Rattle.sial_meaning.specs.Number.{plus}
-use Rattle.sial_meaning.specs.Own.{Own, for_each, with_created, with_scalar}
+use Rattle.sial_meaning.specs.LocalStep.{local_step}
+use Rattle.sial_meaning.specs.Own.{Own, for_each, with_created}
 use Rattle.sial_meaning.specs.Setting.{Setting, array_kind, block_count, block_words, first_of_class, zeros}
 use Rattle.sial_meaning.specs.Sound.{IsSound}
-use Rattle.sial_meaning.specs.State.{State, with_run, epoch_ended, with_own}
-use Rattle.sial_meaning.specs.Statement.{Outcome, Went, Reading, named, reads_of, reads_logged, values_of, created_trap, created, deleted, collected, effect, unless_trapped, statement}
-use Rattle.sial_meaning.specs.WholeStates.{OwnIsWhole, DistributedIsWhole, ServedIsWhole, IsWhole, words_if}
+use Rattle.sial_meaning.specs.State.{State, with_run}
+use Rattle.sial_meaning.specs.Statement.{Reading, reads_of, reads_logged, values_of, created_trap, created, deleted, effect, unless_trapped, statement}
+use Rattle.sial_meaning.specs.WholeStates.{OwnIsWhole, DistributedIsWhole, IsWhole, words_if}
 use Rattle.sial_meaning.proofs.FitLemmas.{holds-so}
 use Rattle.sial_meaning.proofs.GrantedVisits.{Good}
 use Rattle.sial_meaning.proofs.OwnLemmas.{row-long}

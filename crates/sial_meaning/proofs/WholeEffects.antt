@@ -1,7 +1,6 @@
 -- Effects on shared blocks leave a whole state.
-use Rattle.std.proofs.Common.{◌≡◌, ℕ, zero, suc, ◌+◌, ◌<◌, ◌≤◌, ◌⊎◌, inl, inr, List, [], ◌∷◌, ◌++◌, map, zip, length, slice_index_or, slice_set, replicate, Bool, true, false, ◌==◌, ◌&&◌, ◌||◌, not, if◌then◌else◌, Option, Some, None, Ok, Err, refl, sym, ap, ◌∙◌, subst, eqb-true, arith}
-use Rattle.std.proofs.lemmas.Bool.{eq-eqb}
-use Rattle.std.proofs.lemmas.List.{length-map, length-set, get_or-set_same, get_or-set_other, get_or-replicate, length-replicate}
+use Rattle.std.proofs.Common.{◌≡◌, ℕ, suc, ◌+◌, inl, inr, List, [], ◌∷◌, ◌++◌, zip, length, slice_index_or, slice_set, Bool, true, false, ◌==◌, ◌&&◌, ◌||◌, not, if◌then◌else◌, Option, Some, None, Ok, Err, refl, sym, ap, ◌∙◌, eqb-true, arith}
+use Rattle.std.proofs.lemmas.List.{length-map, length-set}
 use Rattle.std.specs.Prelude.{flat_map}
 use Rattle.std.specs.List.{list_any}
 use Rattle.sial_syntax.specs.declared.access.Access.{Access}
@@ -10,32 +9,30 @@ use Rattle.sial_syntax.specs.declared.array.ArrayKind.{ArrayKind}
 use Rattle.sial_syntax.specs.declared.array.ArrayKind.TheVariants.{Static, Temp, Local, Distributed, Served}
 use Rattle.sial_syntax.specs.declared.operand.BlockRef.{BlockRef}
 use Rattle.sial_syntax.specs.Agreeing.{all_in, same_list, has_kind, array_in, is_own}
-use Rattle.sial_syntax.specs.Boxes.{numbers_from, volume}
+use Rattle.sial_syntax.specs.Boxes.{volume}
 use Rattle.sial_syntax.specs.Parts.{blocks_named, slots_named, slot_index, conditions, condition_indices, indices_used}
 use Rattle.sial_syntax.specs.Shapes.{wrong_loop, wrong_where, wrong_dims, wrong_slots, wrong_array, wrong_form, wrong_transfer, wrong_rank, wrong_slot_rank, disagrees}
-use Rattle.sial_syntax.specs.Spaces.{same_kind, blocks_together}
-use Rattle.sial_syntax.specs.Tree.{Plain, Put, Prepare, Create, Delete}
+use Rattle.sial_syntax.specs.Spaces.{same_kind}
+use Rattle.sial_syntax.specs.Tree.{Put, Prepare}
 use Rattle.sial_syntax.specs.Visits.{Visit}
-use Rattle.sial_syntax.proofs.BoxLemmas.{numbers-length}
 use Rattle.sial_meaning.specs.declared.trap.TrapKind.{TrapKind}
 use Rattle.sial_meaning.specs.declared.trap.TrapKind.TheVariants.{UnsetBlock, LocalMissing, NotCreated}
 use Rattle.sial_meaning.specs.LocalStep.{Answer, or_trap, held_words, words_of, words_by_kind}
 use Rattle.sial_meaning.specs.Number.{accessed}
-use Rattle.sial_meaning.specs.Own.{Own, Held, for_each, members_of, same_members, number_of, temp_of, local_block, is_created, with_created}
-use Rattle.sial_meaning.specs.Setting.{Setting, array_kind, dims_of, block_count, block_words, first_of_class, class_of_kind, zeros}
+use Rattle.sial_meaning.specs.Own.{Own, Held, members_of, same_members, number_of, temp_of, local_block, is_created}
+use Rattle.sial_meaning.specs.Setting.{Setting, array_kind, dims_of, block_words, first_of_class, class_of_kind}
 use Rattle.sial_meaning.specs.Sight.{lengths}
 use Rattle.sial_meaning.specs.Sound.{IsSound}
-use Rattle.sial_meaning.specs.State.{State, Shared, with_run, accessed_words, shared_block}
-use Rattle.sial_meaning.specs.Statement.{Named, named, class_or, is_missing, is_distributed, created_trap, stored, put_done, created, deleted}
+use Rattle.sial_meaning.specs.State.{State, accessed_words, shared_block}
+use Rattle.sial_meaning.specs.Statement.{Named, named, class_or, is_missing, is_distributed, created_trap, stored, put_done}
 use Rattle.sial_meaning.specs.Whole.{held_extents}
 use Rattle.sial_meaning.specs.WholeStates.{OwnIsWhole, DistributedIsWhole, ServedIsWhole, IsWhole, words_if}
 use Rattle.sial_meaning.proofs.FitLemmas.{Fit, named_volume, front-in, holds-so, fit-named, placed, placed-temp}
 use Rattle.sial_meaning.proofs.GrantedVisits.{Good}
-use Rattle.sial_meaning.proofs.OwnLemmas.{some-one, set-read, row-long}
+use Rattle.sial_meaning.proofs.OwnLemmas.{set-read}
 use Rattle.sial_meaning.proofs.PairLemmas.{never, first-holds, second-holds}
 use Rattle.sial_meaning.proofs.RangeLemmas.{InRange}
 use Rattle.sial_meaning.proofs.RestLemmasRules.{neither}
-use Rattle.sial_meaning.proofs.RunLemmas.{run-long, run-other, run-same, declared-array, within-class, apart-in-class}
 use Rattle.sial_meaning.proofs.WholeStatements.{WholeTo}
 
 -- a kind that passes the test for another is it

@@ -1,11 +1,7 @@
 -- A statement that holds no other leaves a whole state, where it breaks no rule and its indices have numbers in their ranges.
-use Rattle.std.proofs.Common.{◌≡◌, ℕ, zero, suc, ◌+◌, ◌<◌, ◌≤◌, ◌⊎◌, inl, inr, List, [], ◌∷◌, ◌++◌, map, zip, length, slice_index_or, slice_set, replicate, Bool, true, false, ◌==◌, ◌&&◌, ◌||◌, not, if◌then◌else◌, Option, Some, None, Ok, Err, refl, sym, ap, ◌∙◌, subst, eqb-true, arith}
-use Rattle.std.proofs.lemmas.Bool.{false_from_ne_true, eq-eqb}
-use Rattle.std.proofs.lemmas.List.{length-map, length-set, get_or-set_same, get_or-set_other, get_or-replicate}
+use Rattle.std.proofs.Common.{◌≡◌, ℕ, inl, List, [], ◌∷◌, ◌++◌, length, slice_set, Bool, true, false, ◌||◌, not, if◌then◌else◌, Option, Some, Ok, Err, refl, sym, subst}
 use Rattle.std.specs.Prelude.{flat_map}
-use Rattle.std.specs.List.{list_any, list_all}
-use Rattle.sial_syntax.specs.declared.access.Access.{Access}
-use Rattle.sial_syntax.specs.declared.access.Class.TheVariants as class
+use Rattle.std.specs.List.{list_any}
 use Rattle.sial_syntax.specs.declared.array.ArrayKind.{ArrayKind}
 use Rattle.sial_syntax.specs.declared.array.ArrayKind.TheVariants.{Static, Temp, Local, Distributed, Served}
 use Rattle.sial_syntax.specs.declared.classes.ScalarClass.{ScalarClass}
@@ -14,34 +10,23 @@ use Rattle.sial_syntax.specs.declared.operand.BlockRef.{BlockRef}
 use Rattle.sial_syntax.specs.declared.operand.Op.{Op}
 use Rattle.sial_syntax.specs.declared.operand.Target.{Target}
 use Rattle.sial_syntax.specs.declared.operand.Target.TheVariants as target
-use Rattle.sial_syntax.specs.Agreeing.{all_in, same_list, has_kind, array_in, is_own}
-use Rattle.sial_syntax.specs.Boxes.{numbers_from, volume}
+use Rattle.sial_syntax.specs.Agreeing.{all_in}
 use Rattle.sial_syntax.specs.Parts.{blocks_named, slots_named, slot_index, conditions, condition_indices, indices_used}
-use Rattle.sial_syntax.specs.Shapes.{wrong_loop, wrong_where, wrong_dims, wrong_slots, wrong_array, wrong_form, wrong_transfer, wrong_rank, wrong_slot_rank, disagrees, bound_in_conditions}
-use Rattle.sial_syntax.specs.Spaces.{same_kind, blocks_together}
 use Rattle.sial_syntax.specs.Tree.{Plain, Do, DoIn, Pardo, If, IfElse, Call, Assign, Get, Request, Put, Prepare, Create, Delete, Allocate, Deallocate, Collective, SipBarrier, ServerBarrier, Print, PrintScalar, Integrals}
-use Rattle.sial_syntax.specs.Visits.{Visit}
-use Rattle.sial_syntax.proofs.BoxLemmas.{numbers-length}
-use Rattle.sial_meaning.specs.declared.trap.TrapKind.{TrapKind}
-use Rattle.sial_meaning.specs.declared.trap.TrapKind.TheVariants.{UnsetBlock, UnsetScalar, LocalMissing, LocalTwice}
-use Rattle.sial_meaning.specs.LocalStep.{Done, Answer, and_then, or_trap, quiet, held_words, words_of, words_by_kind, needs_old, scalar_value, scalar_assigned, to_scalar, old_words, with_words, to_target, side_read, matched, is_allocated, all_allocated, all_deallocated, integrals, scalar_line, local_step}
-use Rattle.sial_meaning.specs.Own.{Own, Held, for_each, sight, members_of, same_members, number_of, temp_of, local_block, static_block, scalar_of, is_created, with_created}
+use Rattle.sial_meaning.specs.declared.trap.TrapKind.TheVariants.{UnsetScalar, LocalMissing, LocalTwice}
+use Rattle.sial_meaning.specs.LocalStep.{Done, Answer, and_then, or_trap, quiet, needs_old, scalar_value, scalar_assigned, to_scalar, old_words, with_words, to_target, side_read, matched, is_allocated, all_allocated, all_deallocated, integrals, scalar_line, local_step}
+use Rattle.sial_meaning.specs.Own.{Own, sight, scalar_of}
 use Rattle.sial_meaning.specs.Right.{Side, assigned, is_insertion}
-use Rattle.sial_meaning.specs.Setting.{Setting, array_kind, dims_of, block_count, block_words, first_of_class, scalar_class, class_of, class_of_kind, zeros}
-use Rattle.sial_meaning.specs.Sight.{lengths}
+use Rattle.sial_meaning.specs.Setting.{Setting, array_kind, scalar_class}
 use Rattle.sial_meaning.specs.Sound.{IsSound}
-use Rattle.sial_meaning.specs.State.{State, Shared, blocks_of_class, shared_block, with_block, with_run, accessed_words, logged, epoch_ended}
-use Rattle.sial_meaning.specs.Statement.{Outcome, Went, Stopped, Reading, Named, named, class_or, reads_of, reads_logged, values_of, is_missing, wants_created, created_trap, local_done, stored, put_done, created, deleted, effect, unless_trapped, trap_at, statement}
-use Rattle.sial_meaning.specs.Whole.{held_extents}
-use Rattle.sial_meaning.specs.WholeStates.{OwnIsWhole, DistributedIsWhole, ServedIsWhole, IsWhole, words_if}
-use Rattle.sial_meaning.proofs.FitLemmas.{In, Fit, Placed, named_volume, front-in, holds-so, fit-named, placed, placed-temp}
+use Rattle.sial_meaning.specs.State.{State, Shared}
+use Rattle.sial_meaning.specs.Statement.{Outcome, Went, Stopped, reads_logged, local_done}
+use Rattle.sial_meaning.specs.WholeStates.{OwnIsWhole, DistributedIsWhole, ServedIsWhole, IsWhole}
+use Rattle.sial_meaning.proofs.FitLemmas.{Fit, named_volume, front-in, holds-so, fit-named}
 use Rattle.sial_meaning.proofs.GrantedVisits.{Good}
-use Rattle.sial_meaning.proofs.OwnLemmas.{some-one, set-read, words-whole, integrals-long, row-long, allocated-whole, deallocated-whole}
-use Rattle.sial_meaning.proofs.PairLemmas.{never, first-holds, second-holds}
+use Rattle.sial_meaning.proofs.OwnLemmas.{words-whole, integrals-long, allocated-whole, deallocated-whole}
 use Rattle.sial_meaning.proofs.RangeLemmas.{InRange}
 use Rattle.sial_meaning.proofs.ReadBackLemmas.{as-many-elements}
-use Rattle.sial_meaning.proofs.RestLemmasRules.{neither}
-use Rattle.sial_meaning.proofs.RunLemmas.{run-long, run-other, run-same, declared-array, within-class, apart-in-class}
 
 -- an outcome's state is whole
 abbrev pub WholeTo : Setting → Outcome → Type 0

@@ -1,5 +1,5 @@
 -- States whose arrays are whole: every block that is there has as many elements as positions.
-use Rattle.std.specs.Prelude.{◌≡◌, ℕ, ◌+◌, ◌<◌, List, [], map, length, Bool, true, false, slice_index_or, Option, Some}
+use Rattle.std.specs.Prelude.{◌≡◌, ℕ, ◌+◌, ◌<◌, List, [], map, length, Bool, true, false, slice_index_or, Some}
 use Rattle.std.specs.FinMap as finite
 use Rattle.sial_syntax.specs.declared.access.Class.TheVariants as class
 use Rattle.sial_syntax.specs.declared.array.ArrayKind.{ArrayKind}

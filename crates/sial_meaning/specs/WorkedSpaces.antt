@@ -1,5 +1,5 @@
 -- Worked programs: ranges by constants, and spaces that a program hasn't.
-use Rattle.std.specs.Prelude.{ℕ, [], ◌∷◌, codes, Some, None}
+use Rattle.std.specs.Prelude.{[], ◌∷◌, codes, Some, None}
 use Rattle.sial_syntax.specs.declared.array.ArrayKind.TheVariants as array
 use Rattle.sial_syntax.specs.declared.classes.ScalarClass.TheVariants as scalar
 use Rattle.sial_syntax.specs.declared.classes.Side.TheVariants as side
