@@ -81,7 +81,7 @@ fit-named g v bound b good used is =
       used = indices-in (blocks_named v.form) bound b used is;
       long = eqb-true (length b.at) (length (dims_of g b.array)) (holds-so (length b.at == length (dims_of g b.array)) (none-of (wrong_rank p) (blocks_named v.form) b ranks is));
       fits = holds-so (fits_dims p b.at (dims_of g b.array)) (none-of (wrong_dims p) (blocks_named v.form) b dims is);
-      within = all-of (λ (b : BlockRef). indices_within g.spaces b.at (array_in p b.array).dims) (blocks_named v.form) b inside is
+      within = all-of (λ (b : BlockRef). indices_within g.spaces b.at (array_in p b.array).dims) (blocks_named v.form) b inside is;
     }
 
 -- how many positions a named block has, by where its indices lie
@@ -102,7 +102,7 @@ placed g bound own b sound in-range fit other =
       below = rank-within g.spaces dims numbers named.0;
       words =
           ap (λ es. volume (lengths es)) (named.1 ∙ ap (extents_of g.spaces dims) (sym (numbers-of-rank g.spaces dims numbers named.0)))
-          ∙ sym (words-are g.spaces dims (numbers_at g.spaces dims (rank_of g.spaces dims numbers)))
+          ∙ sym (words-are g.spaces dims (numbers_at g.spaces dims (rank_of g.spaces dims numbers)));
     }
 
 -- a temp's block is as long as its members say

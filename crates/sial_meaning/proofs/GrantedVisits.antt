@@ -56,7 +56,7 @@ clear-rest g v vs c = record {
   kind = (kept_none (breaks_kind g.program v) v (filter (breaks_kind g.program) vs) c.kind).1;
   indices = (kept_none (breaks_indices g.program v) v (filter (breaks_indices g.program) vs) c.indices).1;
   writable = (kept_none (breaks_writable g.program v) v (filter (breaks_writable g.program) vs) c.writable).1;
-  within = (both (statement_within g.program g.spaces v.form) (list_all (λ (v : Visit). statement_within g.program g.spaces v.form) vs) c.within).1
+  within = (both (statement_within g.program g.spaces v.form) (list_all (λ (v : Visit). statement_within g.program g.spaces v.form) vs) c.within).1;
 }
 
 clear-first : (g : Setting) (v : Visit) (vs : List Visit) → IsTrue (proper_form g.program v.form) → Clear g (v ∷ vs) → Good g v
@@ -67,7 +67,7 @@ clear-first g v vs proper c = record {
   kind = (kept_none (breaks_kind g.program v) v (filter (breaks_kind g.program) vs) c.kind).0;
   indices = (kept_none (breaks_indices g.program v) v (filter (breaks_indices g.program) vs) c.indices).0;
   writable = (kept_none (breaks_writable g.program v) v (filter (breaks_writable g.program) vs) c.writable).0;
-  within = (both (statement_within g.program g.spaces v.form) (list_all (λ (v : Visit). statement_within g.program g.spaces v.form) vs) c.within).0
+  within = (both (statement_within g.program g.spaces v.form) (list_all (λ (v : Visit). statement_within g.program g.spaces v.form) vs) c.within).0;
 }
 
 -- the parts of all these are there
@@ -174,11 +174,11 @@ rules-of p granted =
       rebound = map_none (λ (v : Visit). record { line = v.line; rule = 2 }) (filter (breaks_rebound p) (all_visits p)) two.1;
       declared = record {
         indices = map_none (λ (i : IndexDecl). record { line = i.line; rule = 4 }) (filter (index_breaks_kind p) p.indices) both_of.0;
-        arrays = map_none (λ (a : ArrayDecl). record { line = a.line; rule = 4 }) (filter (array_breaks_kind p) p.arrays) both_of.1
+        arrays = map_none (λ (a : ArrayDecl). record { line = a.line; rule = 4 }) (filter (array_breaks_kind p) p.arrays) both_of.1;
       };
       kind = map_none (λ (v : Visit). record { line = v.line; rule = 4 }) (filter (breaks_kind p) (all_visits p)) kinds.1;
       indices = map_none (λ (v : Visit). record { line = v.line; rule = 5 }) (filter (breaks_indices p) (all_visits p)) five.1;
-      writable = map_none (λ (v : Visit). record { line = v.line; rule = 6 }) (filter (breaks_writable p) (all_visits p)) six.1
+      writable = map_none (λ (v : Visit). record { line = v.line; rule = 6 }) (filter (breaks_writable p) (all_visits p)) six.1;
     }
 
 pub declared-granted : (p : Tree) → IsGranted p → Declared p

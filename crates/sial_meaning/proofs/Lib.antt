@@ -24,6 +24,8 @@ pub mod WholeStatements
 pub mod WholeEffects
 pub mod WholeCreated
 pub mod WholeStart
+pub mod WholeRest
+pub mod WholeBound
 pub mod WholeSteps
 pub mod WholeMaps
 pub mod WorkedFirstRuns

@@ -52,13 +52,13 @@ static-whole g own array number words whole long =
             | inl same ↦
                 ap (λ r. length (slice_index_or r n [])) same.1
                 ∙ elim (set-read row number n words []) as (λ q. length (slice_index_or now n []) ≡ block_words g a n) [
-                    | inl here ↦ ap length here.1 ∙ (long ∙ (ap (λ x. block_words g x number) same.0 ∙ ap (block_words g a) here.0))
-                    | inr there ↦ ap length there ∙ (ap (λ x. length (slice_index_or (slice_index_or own.statics x []) n [])) same.0 ∙ whole.statics a n is below)
-                  ]
+                  | inl here ↦ ap length here.1 ∙ (long ∙ (ap (λ x. block_words g x number) same.0 ∙ ap (block_words g a) here.0))
+                  | inr there ↦ ap length there ∙ (ap (λ x. length (slice_index_or (slice_index_or own.statics x []) n [])) same.0 ∙ whole.statics a n is below)
+                ]
             | inr other ↦ ap (λ r. length (slice_index_or r n [])) other ∙ whole.statics a n is below
           ];
       temps = whole.temps;
-      locals = whole.locals
+      locals = whole.locals;
     }
 
 -- a temp that holds a block of the length that its members say
@@ -75,7 +75,7 @@ temp-whole g own array held whole long = record {
             (subst (λ x. length held.words ≡ volume (lengths (held_extents g.spaces (dims_of g x) held.members))) same.0 long)
         | inr other ↦ whole.temps a h (sym other ∙ is)
       ];
-  locals = whole.locals
+  locals = whole.locals;
 }
 
 -- a local block that has its length, or is taken away
@@ -97,7 +97,7 @@ local-whole g own array number now whole long =
                   | inr there ↦ whole.locals a n words (sym (ap (λ x. slice_index_or (slice_index_or own.locals x []) n None) same.0) ∙ (sym there ∙ is-there))
                 ]
             | inr other ↦ whole.locals a n words (sym (ap (λ r. slice_index_or r n None) other) ∙ is)
-          ]
+          ];
     }
 
 -- a named block with as many elements as it has positions

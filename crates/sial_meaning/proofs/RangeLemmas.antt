@@ -67,7 +67,7 @@ between-runs kind None hi s a b same = absurd cc
 between-runs kind (Some lo) None s a b same = absurd cc
 between-runs kind (Some lo) (Some hi) s a b same =
     subst (λ (x : Span). Runs x (range.Segments kind a b)) (sym (one-some s (segments_between kind lo hi) same))
-    (elim (nat_lt hi lo) as (λ c. Runs (if c then Segments kind 1 0 else Segments kind lo ((hi + 1) - lo)) (range.Segments kind a b)) [ | true ↦ refl | false ↦ refl ])
+    (elim (nat_lt hi lo) as (λ c. Runs (if c then Segments kind 1 0 else Segments kind lo ((hi + 1) - lo)) (range.Segments kind a b)) [ true ↦ refl | false ↦ refl ])
 
 range-runs : (constants : Constants) (r : Range) (s : Span) → Some s ≡ span_of_range constants r → Runs s r
 range-runs constants (range.Segments kind lo hi) s same = between-runs kind (bound_number constants lo) (bound_number constants hi) s lo hi same
@@ -141,7 +141,7 @@ stands-for g sound u d may =
     let flags = second-holds (is_kind (range_kind p (range_in p u)) (range_kind p (range_in p d))) (same_flag (is_sub p u) (is_sub p d)) may in
     record {
       kind = kind-is g sound u ∙ (kinds-one (range_kind p (range_in p u)) (range_kind p (range_in p d)) same ∙ sym (kind-is g sound d));
-      cut = sub-is g sound u ∙ (flags-one (is_sub p u) (is_sub p d) flags ∙ sym (sub-is g sound d))
+      cut = sub-is g sound u ∙ (flags-one (is_sub p u) (is_sub p d) flags ∙ sym (sub-is g sound d));
     }
 
 -- a number that an index may have: of a segment of its range; pieces are not asked
@@ -193,8 +193,8 @@ segment-named g values u d whole stands within in-span =
     let one = itself u (span_of g.spaces u) whole-u in
     let other = itself d (span_of g.spaces d) whole in
     let lies : lies_in (first_of g.spaces u) (count_of g.spaces u) (first_of g.spaces d) (count_of g.spaces d) ≡ true =
-        ap (λ x. lies_in (first_of g.spaces u) (count_of g.spaces u) (first_of g.spaces x) (count_of g.spaces x)) (sym other)
-        ∙ (ap (λ x. lies_in (first_of g.spaces x) (count_of g.spaces x) (first_of g.spaces (whole_index g.spaces d)) (count_of g.spaces (whole_index g.spaces d))) (sym one) ∙ within) in
+    ap (λ x. lies_in (first_of g.spaces u) (count_of g.spaces u) (first_of g.spaces x) (count_of g.spaces x)) (sym other)
+    ∙ (ap (λ x. lies_in (first_of g.spaces x) (count_of g.spaces x) (first_of g.spaces (whole_index g.spaces d)) (count_of g.spaces (whole_index g.spaces d))) (sym one) ∙ within) in
     let bounds = whole-bounds (span_of g.spaces u) v whole-u in-span in
     let both = lies-within (first_of g.spaces u) (count_of g.spaces u) (first_of g.spaces d) (count_of g.spaces d) v lies bounds.0 bounds.1 in
     (both.0, both.1, whole-extent g.spaces values u (span_of g.spaces u) whole-u ∙ ap (λ k. segment g.spaces k v) stands.kind)
@@ -244,7 +244,7 @@ segments-named g sound bound values (u ∷ us) (d ∷ ds) in-range are long fits
     let stands = stands-for g sound u d (first-holds (may_stand_for g.program u d) (fits_dims g.program us ds) fits) in
     let here = segment-named g values u d whole.0 stands (first-holds (range_within g.spaces u d) (indices_within g.spaces us ds) within) (in-range u (first-holds (contains bound u) (all_in us bound) are)) in
     let rest = segments-named g sound bound values us ds in-range (second-holds (contains bound u) (all_in us bound) are) (omega (arith, long))
-        (second-holds (may_stand_for g.program u d) (fits_dims g.program us ds) fits) (second-holds (range_within g.spaces u d) (indices_within g.spaces us ds) within) whole.1 in (
+    (second-holds (may_stand_for g.program u d) (fits_dims g.program us ds) fits) (second-holds (range_within g.spaces u d) (indices_within g.spaces us ds) within) whole.1 in (
       (here.0, here.1, rest.0),
       ap (λ e. e ∷ map (extent g.spaces values) us) here.2 ∙ ap (λ es. segment g.spaces (kind_of g.spaces d) (slice_index_or values u 0) ∷ es) rest.1,
     )

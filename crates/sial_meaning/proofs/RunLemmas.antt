@@ -110,10 +110,12 @@ apart-in-class g a b n kind is-a is-b other below differ =
   where
     first-a : first_of_class g a ≡ blocks_together g.spaces kind (take a g.program.arrays)
     first-a = ap (λ k. blocks_together g.spaces k (take a g.program.arrays)) is-a
+
     first-b : first_of_class g b ≡ blocks_together g.spaces kind (take b g.program.arrays)
     first-b = ap (λ k. blocks_together g.spaces k (take b g.program.arrays)) is-b
+
     lower : (x y : ℕ) → (x ≡ y → ⊥) → (x < y) ⊎ (y < x)
     lower zero zero differ = absurd (differ refl)
     lower zero (suc y) differ = inl (omega arith)
     lower (suc x) zero differ = inr (omega arith)
-    lower (suc x) (suc y) differ = elim (lower x y (λ e. differ (ap suc e))) as (λ q. (suc x < suc y) ⊎ (suc y < suc x)) [ | inl l ↦ inl (omega (arith, l)) | inr m ↦ inr (omega (arith, m)) ]
+    lower (suc x) (suc y) differ = elim (lower x y (λ e. differ (ap suc e))) as (λ q. (suc x < suc y) ⊎ (suc y < suc x)) [ inl l ↦ inl (omega (arith, l)) | inr m ↦ inr (omega (arith, m)) ]

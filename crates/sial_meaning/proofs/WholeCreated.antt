@@ -62,7 +62,7 @@ replaced-whole g flags blocks array now ys is-array long whole many each = recor
             let out = apart-in-class g a array n Distributed is is-array refl below differ in
             ap length (run-other (first_of_class g array) ys blocks (first_of_class g a + n) [] (subst (λ m. (first_of_class g a + n < first_of_class g array) ⊎ ((first_of_class g array + m) ≤ first_of_class g a + n)) (sym many) out))
             ∙ (whole.words a n is below ∙ ap (λ b. words_if b (block_words g a n)) (sym (get_or-set_other flags array a now false differ)))
-      ] refl
+      ] refl;
 }
 
 -- flags changed
@@ -72,13 +72,13 @@ flag-whole g own array now whole = record { values = whole.values; created = len
 created-whole : (g : Setting) (array : ℕ) (s : State) → array_kind g array ≡ Distributed → IsWhole g s → IsWhole g (created g array s)
 created-whole g array s is whole =
     let now = replaced-whole g s.own.created s.shared.distributed array true (for_each (block_count g array) (zeros g array)) is whole.own.created whole.distributed (each-long (block_count g array) (zeros g array))
-        (λ n below. ap length (each-read (block_count g array) (zeros g array) n [] below) ∙ row-long (block_words g array n)) in
+    (λ n below. ap length (each-read (block_count g array) (zeros g array) n [] below) ∙ row-long (block_words g array n)) in
     record { own = flag-whole g s.own array true whole.own; distributed = now; served = whole.served; distributed_copies = now; served_copies = whole.served_copies }
 
 deleted-whole : (g : Setting) (array : ℕ) (s : State) → array_kind g array ≡ Distributed → IsWhole g s → IsWhole g (deleted g array s)
 deleted-whole g array s is whole =
     let now = replaced-whole g s.own.created s.shared.distributed array false (replicate (block_count g array) []) is whole.own.created whole.distributed (length-replicate (block_count g array) [])
-        (λ n below. ap length (get_or-replicate (block_count g array) n [] [] below)) in
+    (λ n below. ap length (get_or-replicate (block_count g array) n [] [] below)) in
     record { own = flag-whole g s.own array false whole.own; distributed = now; served = whole.served; distributed_copies = now; served_copies = whole.served_copies }
 
 -- the effect of a statement whose created flags are as it wants them

@@ -140,13 +140,13 @@ set-lengths xs i y long j =
 distributed-stays : (g : Setting) (flags : List Bool) (xs : List (List ℕ)) (i : ℕ) (y : List ℕ) → length y ≡ length (slice_index_or xs i []) → DistributedIsWhole g flags xs → DistributedIsWhole g flags (slice_set xs i y)
 distributed-stays g flags xs i y long whole = record {
   count = length-set xs i y ∙ whole.count;
-  words = λ a n is below. set-lengths xs i y long (first_of_class g a + n) ∙ whole.words a n is below
+  words = λ a n is below. set-lengths xs i y long (first_of_class g a + n) ∙ whole.words a n is below;
 }
 
 served-stays : (g : Setting) (xs : List (List ℕ)) (i : ℕ) (y : List ℕ) → length y ≡ length (slice_index_or xs i []) → ServedIsWhole g xs → ServedIsWhole g (slice_set xs i y)
 served-stays g xs i y long whole = record {
   count = length-set xs i y ∙ whole.count;
-  words = λ a n is below. set-lengths xs i y long (first_of_class g a + n) ∙ whole.words a n is below
+  words = λ a n is below. set-lengths xs i y long (first_of_class g a + n) ∙ whole.words a n is below;
 }
 
 -- a shared block after an access with as many elements
@@ -159,14 +159,14 @@ stored-whole g line place how words s whole long = by-class place.class place.bl
       distributed = distributed-stays g s.own.created s.shared.distributed n (accessed_words how (slice_index_or s.shared.distributed n []) words) (accessed-long how (slice_index_or s.shared.distributed n []) words fits) whole.distributed;
       served = whole.served;
       distributed_copies = whole.distributed_copies;
-      served_copies = whole.served_copies
+      served_copies = whole.served_copies;
     }
     by-class class.Served n fits = record {
       own = whole.own;
       distributed = whole.distributed;
       served = served-stays g s.shared.served n (accessed_words how (slice_index_or s.shared.served n []) words) (accessed-long how (slice_index_or s.shared.served n []) words fits) whole.served;
       distributed_copies = whole.distributed_copies;
-      served_copies = whole.served_copies
+      served_copies = whole.served_copies;
     }
 
 -- what the rules say of a transfer: both blocks fit, the source is the worker's own, and both have the same indices
@@ -186,7 +186,7 @@ transfer-by g v bound block from kind good to source wrong differ =
       source = source;
       is = kind-one (array_kind g block.array) kind (holds-so (has_kind g.program kind block.array) parts.0);
       own = holds-so (is_own (array_in g.program from.array).kind) parts.1;
-      at = lists-one block.at from.at (holds-so (same_list block.at from.at) differ)
+      at = lists-one block.at from.at (holds-so (same_list block.at from.at) differ);
     }
 
 -- the array of a good statement is of the kind that it wants
@@ -229,17 +229,18 @@ put-whole g line bound within block how from s sound in-range good there whole =
   where
     transfer : Transfer g bound block from Distributed
     transfer = put-transfer g line bound within block how from good
+
     by-words : (answer : Answer (List ℕ)) → words_of g s.own from [] ≡ answer → WholeTo g (put_done line (named g s.own block) how s answer)
     by-words (Err kind) is = whole
     by-words (Ok words) is =
         let at = placed g bound s.own block sound in-range transfer.to (ap (λ k. same_kind k Temp) transfer.is) in
         let long : length words ≡ block_words g block.array (number_of g s.own block) =
-            source-long g bound s.own from words (array_kind g from.array) sound in-range transfer.source whole.own refl transfer.own is
-            ∙ (ap (λ xs. named_volume g s.own (record { array = block.array; at = xs })) (sym transfer.at) ∙ at.words) in
+        source-long g bound s.own from words (array_kind g from.array) sound in-range transfer.source whole.own refl transfer.own is
+        ∙ (ap (λ xs. named_volume g s.own (record { array = block.array; at = xs })) (sym transfer.at) ∙ at.words) in
         let flag : is_created s.own block.array ≡ true =
-            there-is g s.own block.array transfer.is (neither (is_missing g s.own block.array) false (no-trap (is_missing g s.own block.array || false) NotCreated there)).0 in
+        there-is g s.own block.array transfer.is (neither (is_missing g s.own block.array) false (no-trap (is_missing g s.own block.array || false) NotCreated there)).0 in
         let old : length (slice_index_or s.shared.distributed (first_of_class g block.array + number_of g s.own block) []) ≡ block_words g block.array (number_of g s.own block) =
-            whole.distributed.words block.array (number_of g s.own block) transfer.is at.below ∙ ap (λ b. words_if b (block_words g block.array (number_of g s.own block))) flag in
+        whole.distributed.words block.array (number_of g s.own block) transfer.is at.below ∙ ap (λ b. words_if b (block_words g block.array (number_of g s.own block))) flag in
         let c : class_or (class_of_kind (array_kind g block.array)) ≡ class.Distributed = ap (λ k. class_or (class_of_kind k)) transfer.is in
         stored-whole g line (named g s.own block) how words s whole
         (long ∙ (sym old ∙ ap (λ k. length (shared_block s.shared k (first_of_class g block.array + number_of g s.own block))) (sym c)))
@@ -250,15 +251,16 @@ prepare-whole g line bound within block how from s sound in-range good whole = b
   where
     transfer : Transfer g bound block from Served
     transfer = prepare-transfer g line bound within block how from good
+
     by-words : (answer : Answer (List ℕ)) → words_of g s.own from [] ≡ answer → WholeTo g (put_done line (named g s.own block) how s answer)
     by-words (Err kind) is = whole
     by-words (Ok words) is =
         let at = placed g bound s.own block sound in-range transfer.to (ap (λ k. same_kind k Temp) transfer.is) in
         let long : length words ≡ block_words g block.array (number_of g s.own block) =
-            source-long g bound s.own from words (array_kind g from.array) sound in-range transfer.source whole.own refl transfer.own is
-            ∙ (ap (λ xs. named_volume g s.own (record { array = block.array; at = xs })) (sym transfer.at) ∙ at.words) in
+        source-long g bound s.own from words (array_kind g from.array) sound in-range transfer.source whole.own refl transfer.own is
+        ∙ (ap (λ xs. named_volume g s.own (record { array = block.array; at = xs })) (sym transfer.at) ∙ at.words) in
         let old : length (slice_index_or s.shared.served (first_of_class g block.array + number_of g s.own block) []) ≡ block_words g block.array (number_of g s.own block) =
-            whole.served.words block.array (number_of g s.own block) transfer.is at.below in
+        whole.served.words block.array (number_of g s.own block) transfer.is at.below in
         let c : class_or (class_of_kind (array_kind g block.array)) ≡ class.Served = ap (λ k. class_or (class_of_kind k)) transfer.is in
         stored-whole g line (named g s.own block) how words s whole
         (long ∙ (sym old ∙ ap (λ k. length (shared_block s.shared k (first_of_class g block.array + number_of g s.own block))) (sym c)))

@@ -71,11 +71,12 @@ own-begins g sound = record {
   temps = λ array held is. absurd (nothing held (sym (alike (length g.program.arrays) array None) ∙ is));
   locals = λ array number words is.
       absurd (nothing words
-      (sym (each-holds (λ (r : List (Option (List ℕ))). slice_index_or r number None ≡ None) (λ a. start_locals g a (array_kind g a)) 0 (length g.program.arrays) array [] (λ a. none-local g a number (array_kind g a)) refl) ∙ is))
+      (sym (each-holds (λ (r : List (Option (List ℕ))). slice_index_or r number None ≡ None) (λ a. start_locals g a (array_kind g a)) 0 (length g.program.arrays) array [] (λ a. none-local g a number (array_kind g a)) refl) ∙ is));
 }
   where
     nothing : {X : Type 0} (x : X) → ◌≡◌ {A = Option X} None (Some x) → ⊥
     nothing x e = absurd cc
+
     statics-at : (array : ℕ) → array_kind g array ≡ Static → slice_index_or (start_own g).statics array [] ≡ for_each (block_count g array) (start_block g array)
     statics-at array is =
         each-read (length g.program.arrays) (λ a. start_statics g a (array_kind g a)) array [] (declared-array g array Static is refl) ∙ ap (start_statics g array) is
@@ -159,14 +160,14 @@ distributed-begins g = record {
       let declared = declared-array g a Distributed is refl in
       let none : 0 + a ≡ a = omega arith in
       let first : first_of_class g a ≡ before f 0 a =
-          ap (λ k. blocks_together g.spaces k (take a g.program.arrays)) is ∙ sym (before-is g Distributed f (λ a. distributed-count g a (array_kind g a) refl) a (omega (arith, declared))) in
+      ap (λ k. blocks_together g.spaces k (take a g.program.arrays)) is ∙ sym (before-is g Distributed f (λ a. distributed-count g a (array_kind g a) refl) a (omega (arith, declared))) in
       let list : f (0 + a) ≡ replicate (block_count g a) [] = ap f none ∙ ap (start_shared g class.Distributed a) is in
       let inside : n < length (f (0 + a)) = subst (λ (l : List (List ℕ)). n < length l) (sym list) (let long = length-replicate {A = List ℕ} (block_count g a) [] in omega (arith, below, long)) in
       ap (λ m. length (slice_index_or (start_blocks g class.Distributed) (m + n) [])) first
       ∙ (ap length (flat-read f 0 (length g.program.arrays) a n [] declared inside)
       ∙ (ap (λ l. length (slice_index_or l n [])) list
       ∙ (ap length (get_or-replicate (block_count g a) n [] [] below)
-      ∙ ap (λ b. words_if b (block_words g a n)) (sym (alike (length g.program.arrays) a false)))))
+      ∙ ap (λ b. words_if b (block_words g a n)) (sym (alike (length g.program.arrays) a false)))));
 }
   where
     f : ℕ → List (List ℕ)
@@ -181,13 +182,13 @@ served-begins g sound = record {
       let declared = declared-array g a Served is refl in
       let none : 0 + a ≡ a = omega arith in
       let first : first_of_class g a ≡ before f 0 a =
-          ap (λ k. blocks_together g.spaces k (take a g.program.arrays)) is ∙ sym (before-is g Served f (λ a. served-count g a (array_kind g a) refl) a (omega (arith, declared))) in
+      ap (λ k. blocks_together g.spaces k (take a g.program.arrays)) is ∙ sym (before-is g Served f (λ a. served-count g a (array_kind g a) refl) a (omega (arith, declared))) in
       let list : f (0 + a) ≡ for_each (block_count g a) (start_block g a) = ap f none ∙ ap (start_shared g class.Served a) is in
       let inside : n < length (f (0 + a)) = subst (λ (l : List (List ℕ)). n < length l) (sym list) (let long = each-long (block_count g a) (start_block g a) in omega (arith, below, long)) in
       ap (λ m. length (slice_index_or (start_blocks g class.Served) (m + n) [])) first
       ∙ (ap length (flat-read f 0 (length g.program.arrays) a n [] declared inside)
       ∙ (ap (λ l. length (slice_index_or l n [])) list
-      ∙ (ap length (each-read (block_count g a) (start_block g a) n [] below) ∙ start-long g sound a n)))
+      ∙ (ap length (each-read (block_count g a) (start_block g a) n [] below) ∙ start-long g sound a n)));
 }
   where
     f : ℕ → List (List ℕ)
@@ -200,5 +201,5 @@ start-whole g sound = record {
   distributed = distributed-begins g;
   served = served-begins g sound;
   distributed_copies = distributed-begins g;
-  served_copies = served-begins g sound
+  served_copies = served-begins g sound;
 }

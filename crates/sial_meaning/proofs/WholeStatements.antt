@@ -154,7 +154,7 @@ same-whole g s t own shared copies whole = record {
   distributed = subst (λ (h : Shared). DistributedIsWhole g t.own.created h.distributed) (sym shared) (subst (λ (o : Own). DistributedIsWhole g o.created s.shared.distributed) (sym own) whole.distributed);
   served = subst (λ (h : Shared). ServedIsWhole g h.served) (sym shared) whole.served;
   distributed_copies = subst (λ (h : Shared). DistributedIsWhole g t.own.created h.distributed) (sym copies) (subst (λ (o : Own). DistributedIsWhole g o.created s.copies.distributed) (sym own) whole.distributed_copies);
-  served_copies = subst (λ (h : Shared). ServedIsWhole g h.served) (sym copies) whole.served_copies
+  served_copies = subst (λ (h : Shared). ServedIsWhole g h.served) (sym copies) whole.served_copies;
 }
 
 pub reads-whole : (g : Setting) (line : ℕ) (blocks : List BlockRef) (s : State) → IsWhole g s → IsWhole g (reads_logged g line blocks s)
@@ -168,5 +168,5 @@ local-whole-to g line s (Ok answer) whole done = record {
   distributed = subst (λ flags. DistributedIsWhole g flags s.shared.distributed) (sym done.1) whole.distributed;
   served = whole.served;
   distributed_copies = subst (λ flags. DistributedIsWhole g flags s.copies.distributed) (sym done.1) whole.distributed_copies;
-  served_copies = whole.served_copies
+  served_copies = whole.served_copies;
 }

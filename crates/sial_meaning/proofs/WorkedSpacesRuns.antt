@@ -36,5 +36,5 @@ spaces-are-refused = record {
   other_span = λ constants are. absurd cc;
   no_constant = λ are. never are.segments;
   too_long = λ constants are. never are.cuts;
-  not_within = λ constants are. never are.within
+  not_within = λ constants are. never are.within;
 }

@@ -6,13 +6,14 @@ use Rattle.sial_syntax.specs.declared.array.ArrayKind.{ArrayKind}
 use Rattle.sial_syntax.specs.declared.array.ArrayKind.TheVariants.{Static, Temp, Local, Distributed, Served}
 use Rattle.sial_syntax.specs.Boxes.{volume}
 use Rattle.sial_syntax.specs.Spaces.{blocks_together}
+use Rattle.sial_meaning.specs.Meaning.{meaning}
 use Rattle.sial_meaning.specs.Own.{Own, Held, for_each, static_block, temp_of, local_block, is_created}
 use Rattle.sial_meaning.specs.Rest.{Stepped, Moved, Halted, Ended, steps, start_work}
 use Rattle.sial_meaning.specs.Setting.{Setting, array_kind, dims_of, block_count, block_words, first_of_class}
 use Rattle.sial_meaning.specs.Sight.{lengths}
 use Rattle.sial_meaning.specs.Sound.{IsSound}
 use Rattle.sial_meaning.specs.State.{State, shared_block}
-use Rattle.sial_meaning.specs.Statement.{Reading}
+use Rattle.sial_meaning.specs.Statement.{Outcome, Went, Stopped, Reading}
 use Rattle.sial_meaning.specs.Whole.{block_positions, whole_array, positions_on, held_extents, whole_temp}
 
 -- what a worker holds: a number for each index, a flag for each array, and blocks with as many elements as positions
@@ -57,6 +58,15 @@ StandsAt Ended s = ⊥
 -- a state that some number of steps leads to from the program's start, whichever blocks its reads see
 abbrev pub IsReached : Setting → State → Type 0
 IsReached g s = (reading : Reading) × (count : ℕ) × StandsAt (steps reading g count (start_work g)) s
+
+-- the state of an outcome
+abbrev pub state_of : Outcome → State
+state_of (Went s) = s
+state_of (Stopped trap s) = s
+
+-- the state in which a program ends or traps is one of them
+abbrev pub OutcomesAreReached : Type 0
+OutcomesAreReached = (reading : Reading) (g : Setting) → IsSound g → IsReached g (state_of (meaning reading g))
 
 -- each of these states is whole
 abbrev pub ReachedStatesAreWhole : Type 0

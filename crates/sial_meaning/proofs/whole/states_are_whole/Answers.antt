@@ -1,6 +1,6 @@
 use Rattle.sial_meaning.proofs.WholeMaps.{blocks-of-states-are-the-map, temps-of-states-are-the-map}
-use Rattle.sial_meaning.proofs.WholeSteps.{reached-states-are-whole}
+use Rattle.sial_meaning.proofs.WholeSteps.{reached-states-are-whole, outcomes-are-reached}
 use Rattle.sial_meaning.proofs.whole.states_are_whole.Goals as goal
 
 pub returns : goal.returns
-returns c = record { whole = reached-states-are-whole; block = blocks-of-states-are-the-map; held = temps-of-states-are-the-map }
+returns c = record { whole = reached-states-are-whole; outcome = outcomes-are-reached; block = blocks-of-states-are-the-map; held = temps-of-states-are-the-map }
