@@ -28,6 +28,7 @@ pub mod WholeRest
 pub mod WholeBound
 pub mod WholeSteps
 pub mod WholeMaps
+pub mod HeldLemmas
 pub mod WorkedFirstRuns
 pub mod WorkedSmallRuns
 pub mod WorkedClashesRuns

@@ -42,6 +42,9 @@ static-whole g own array number words whole long =
     record {
       values = whole.values;
       created = whole.created;
+      static_rows = length-set own.statics array now ∙ whole.static_rows;
+      temp_rows = whole.temp_rows;
+      local_rows = whole.local_rows;
       count = λ a is.
           elim (set-read own.statics array a now []) as (λ q. length (slice_index_or (slice_set own.statics array now) a []) ≡ block_count g a) [
             | inl same ↦ ap length same.1 ∙ (length-set row number words ∙ (ap (λ x. length (slice_index_or own.statics x [])) same.0 ∙ whole.count a is))
@@ -66,6 +69,9 @@ pub temp-whole : (g : Setting) (own : Own) (array : ℕ) (held : Held) → OwnIs
 temp-whole g own array held whole long = record {
   values = whole.values;
   created = whole.created;
+  static_rows = whole.static_rows;
+  temp_rows = length-set own.temps array (Some held) ∙ whole.temp_rows;
+  local_rows = whole.local_rows;
   count = whole.count;
   statics = whole.statics;
   temps = λ a h is.
@@ -85,6 +91,9 @@ local-whole g own array number now whole long =
     record {
       values = whole.values;
       created = whole.created;
+      static_rows = whole.static_rows;
+      temp_rows = whole.temp_rows;
+      local_rows = length-set own.locals array (slice_set row number now) ∙ whole.local_rows;
       count = whole.count;
       statics = whole.statics;
       temps = whole.temps;

@@ -2,7 +2,7 @@
 use Rattle.std.proofs.Common.{◌≡◌, ℕ, zero, suc, ◌+◌, ◌<◌, ◌≤◌, inl, inr, List, [], ◌∷◌, ◌++◌, map, length, slice_index_or, slice_set, Bool, true, false, ◌==◌, ◌||◌, nat_lt, Option, Some, None, refl, sym, ap, ◌∙◌, eqb-true, arith, IsTrue}
 use Rattle.std.proofs.lemmas.Bool.{eq-eqb, false_from_ne_true}
 use Rattle.std.proofs.lemmas.Bool.Decides.{nat_tests}
-use Rattle.std.proofs.lemmas.List.{length-set}
+use Rattle.std.proofs.lemmas.List.{length-map, length-set}
 use Rattle.std.specs.List.{list_all}
 use Rattle.sial_syntax.specs.Agreeing.{contains, share_any, has_twice}
 use Rattle.sial_syntax.specs.Boxes.{numbers_from}
@@ -20,7 +20,7 @@ use Rattle.sial_meaning.proofs.PairLemmas.{never}
 use Rattle.sial_meaning.proofs.PlaceLemmas.{either-holds, or-left, or-right}
 use Rattle.sial_meaning.proofs.RangeLemmas.{InSpan, InRange}
 use Rattle.sial_meaning.proofs.RestLemmasRules.{both, neither}
-use Rattle.sial_meaning.proofs.WholeCreated.{each-read}
+use Rattle.sial_meaning.proofs.WholeCreated.{each-read, each-long}
 use Rattle.sial_meaning.proofs.WholeRest.{values-whole, others-stay, fewer, one-more-bound, place-there}
 
 -- a row of one thing, made of another row
@@ -67,6 +67,9 @@ unset-whole g s whole = record {
   own = record {
     values = whole.own.values;
     created = whole.own.created;
+    static_rows = whole.own.static_rows;
+    temp_rows = length-map s.own.temps (λ held. None) ∙ whole.own.temp_rows;
+    local_rows = each-long (length s.own.locals) (λ a. unset_if_inner (side_of g a) (slice_index_or s.own.locals a [])) ∙ whole.own.local_rows;
     count = whole.own.count;
     statics = whole.own.statics;
     temps = λ array held is. absurd (nothing held (sym (all-none s.own.temps array) ∙ is));

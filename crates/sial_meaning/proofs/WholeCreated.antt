@@ -67,7 +67,7 @@ replaced-whole g flags blocks array now ys is-array long whole many each = recor
 
 -- flags changed
 flag-whole : (g : Setting) (own : Own) (array : ℕ) (now : Bool) → OwnIsWhole g own → OwnIsWhole g (with_created array now own)
-flag-whole g own array now whole = record { values = whole.values; created = length-set own.created array now ∙ whole.created; count = whole.count; statics = whole.statics; temps = whole.temps; locals = whole.locals }
+flag-whole g own array now whole = record { values = whole.values; created = length-set own.created array now ∙ whole.created; static_rows = whole.static_rows; temp_rows = whole.temp_rows; local_rows = whole.local_rows; count = whole.count; statics = whole.statics; temps = whole.temps; locals = whole.locals }
 
 created-whole : (g : Setting) (array : ℕ) (s : State) → array_kind g array ≡ Distributed → IsWhole g s → IsWhole g (created g array s)
 created-whole g array s is whole =

@@ -84,7 +84,7 @@ members-one (x ∷ xs) (y ∷ ys) same =
     ap (λ z. z ∷ xs) pair ∙ ap (λ zs. y ∷ zs) (members-one xs ys (second-holds (x.1 == y.1) (same_members xs ys) rest))
 
 -- two answers that are one
-answer-one : {X : Type 0} (x y : X) → ◌≡◌ {A = Answer X} (Ok x) (Ok y) → x ≡ y
+pub answer-one : {X : Type 0} (x y : X) → ◌≡◌ {A = Answer X} (Ok x) (Ok y) → x ≡ y
 answer-one x y same = cc
 
 -- a temp's elements where it holds the named block

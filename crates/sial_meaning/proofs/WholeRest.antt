@@ -68,7 +68,7 @@ good-pushed g indices within at (Then line form more) rest all good =
 -- index numbers changed: the rest of the worker's part stays whole
 pub values-whole : (g : Setting) (s : State) (values : List ℕ) → length values ≡ length g.program.indices → IsWhole g s → IsWhole g (on_own (λ o. record o { values = values }) s)
 values-whole g s values long whole = record {
-  own = record { values = long; created = whole.own.created; count = whole.own.count; statics = whole.own.statics; temps = whole.own.temps; locals = whole.own.locals };
+  own = record { values = long; created = whole.own.created; static_rows = whole.own.static_rows; temp_rows = whole.own.temp_rows; local_rows = whole.own.local_rows; count = whole.own.count; statics = whole.own.statics; temps = whole.own.temps; locals = whole.own.locals };
   distributed = whole.distributed;
   served = whole.served;
   distributed_copies = whole.distributed_copies;

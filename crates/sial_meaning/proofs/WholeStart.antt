@@ -65,6 +65,9 @@ own-begins : (g : Setting) → IsSound g → OwnIsWhole g (start_own g)
 own-begins g sound = record {
   values = length-replicate (length g.program.indices) 0;
   created = length-replicate (length g.program.arrays) false;
+  static_rows = each-long (length g.program.arrays) (λ a. start_statics g a (array_kind g a));
+  temp_rows = length-replicate (length g.program.arrays) None;
+  local_rows = each-long (length g.program.arrays) (λ a. start_locals g a (array_kind g a));
   count = λ array is. ap length (statics-at array is) ∙ each-long (block_count g array) (start_block g array);
   statics = λ array number is below.
       ap (λ r. length (slice_index_or r number [])) (statics-at array is) ∙ (ap length (each-read (block_count g array) (start_block g array) number [] below) ∙ start-long g sound array number);

@@ -49,7 +49,7 @@ done-if g own false x y first second = second
 
 -- scalars changed
 pub scalars-whole : (g : Setting) (own : Own) (scalars : List (Option ℕ)) → OwnIsWhole g own → OwnIsWhole g (record own { scalars = scalars })
-scalars-whole g own scalars whole = record { values = whole.values; created = whole.created; count = whole.count; statics = whole.statics; temps = whole.temps; locals = whole.locals }
+scalars-whole g own scalars whole = record { values = whole.values; created = whole.created; static_rows = whole.static_rows; temp_rows = whole.temp_rows; local_rows = whole.local_rows; count = whole.count; statics = whole.statics; temps = whole.temps; locals = whole.locals }
 
 -- a scalar assigned
 assigned-scalar : (g : Setting) (scalar : ℕ) (op : Op) (value : ℕ) (own : Own) (partials : List ℕ) (needed : Bool) (old : Answer ℕ) → OwnIsWhole g own → DoneWhole g own (scalar_assigned scalar op value own partials needed old)
@@ -78,7 +78,7 @@ block-done g bound own b partials make (Ok o) sound in-range fit whole long =
     (words-whole g bound own b (make o) (array_kind g b.array) sound in-range fit refl whole (long o), flags-stay g b (make o) own (array_kind g b.array))
 
 -- the blocks of an assignment and of integrals fit
-fit-target : (g : Setting) (line : ℕ) (bound : List ℕ) (within : Bool) (b : BlockRef) (op : Op) (right : _) → Good g (record { line = line; form = Assign (target.Block b) op right; bound = bound; within = within }) → Fit g bound b
+pub fit-target : (g : Setting) (line : ℕ) (bound : List ℕ) (within : Bool) (b : BlockRef) (op : Op) (right : _) → Good g (record { line = line; form = Assign (target.Block b) op right; bound = bound; within = within }) → Fit g bound b
 fit-target g line bound within b op right good =
     let form = Assign (target.Block b) op right in
     let used = holds-so (all_in (indices_used form) bound) good.unbound in

@@ -176,14 +176,16 @@ steps-good reading g sound zero rest s work = work
 steps-good reading g sound (suc n) rest s work =
     go-good g (steps reading g n) (λ w good. steps-good reading g sound n w.rest w.state good) (step_from reading g rest s) (step-good reading g sound rest s work)
 
+-- where any number of steps leads
+pub steps-lead : (reading : Reading) (g : Setting) (count : ℕ) → IsSound g → GoodAt g (steps reading g count (start_work g))
+steps-lead reading g count sound =
+    steps-good reading g sound count (push 0 g.program.body (Over (stop_at g.program))) (start_state g)
+    (record { indices = []; in_range = λ i has. absurd (never has); good = good-pushed g [] false 0 g.program.body (Over (stop_at g.program)) (body-good g sound) tt; whole = start-whole g sound })
+
 -- each state that is reached is whole
 pub reached-states-are-whole : ReachedStatesAreWhole
-reached-states-are-whole g s sound (reading, count, stands) =
-    by-steps (steps reading g count (start_work g)) (steps-good reading g sound count (push 0 g.program.body (Over (stop_at g.program))) (start_state g) start) stands
+reached-states-are-whole g s sound (reading, count, stands) = by-steps (steps reading g count (start_work g)) (steps-lead reading g count sound) stands
   where
-    start : GoodWork g (push 0 g.program.body (Over (stop_at g.program))) (start_state g)
-    start = record { indices = []; in_range = λ i has. absurd (never has); good = good-pushed g [] false 0 g.program.body (Over (stop_at g.program)) (body-good g sound) tt; whole = start-whole g sound }
-
     by-steps : (t : Stepped) → GoodAt g t → StandsAt t s → IsWhole g s
     by-steps (Moved w) good is = subst (IsWhole g) is good.whole
     by-steps (Halted trap u) good is = subst (IsWhole g) is good

@@ -27,6 +27,7 @@ pub mod AcceptedLaws
 pub mod Whole
 pub mod WholeLaws
 pub mod WholeStates
+pub mod HeldLaws
 pub mod ReadBackLaws
 pub mod CopyLaws
 pub mod WorkedParts

@@ -20,6 +20,9 @@ use Rattle.sial_meaning.specs.Whole.{block_positions, whole_array, positions_on,
 pub record OwnIsWhole (g : Setting) (own : Own) : Type 0 where
   pub values : length own.values ≡ length g.program.indices
   pub created : length own.created ≡ length g.program.arrays
+  pub static_rows : length own.statics ≡ length g.program.arrays
+  pub temp_rows : length own.temps ≡ length g.program.arrays
+  pub local_rows : length own.locals ≡ length g.program.arrays
   pub count : (array : ℕ) → array_kind g array ≡ Static → length (slice_index_or own.statics array []) ≡ block_count g array
   pub statics : (array number : ℕ) → array_kind g array ≡ Static → number < block_count g array → length (static_block own array number) ≡ block_words g array number
   pub temps : (array : ℕ) (held : Held) → temp_of own array ≡ Some held → length held.words ≡ volume (lengths (held_extents g.spaces (dims_of g array) held.members))

@@ -1,6 +1,7 @@
 //! What assignments to a block read back: laws that proofs above cite, with nothing to run.
 
 ghost use Rattle.sial_meaning.specs.CopyLaws.{CopiesReadBack, EachIsOneOfThree, InsertionsLeaveTheRest, InsertionsReadBack, SlicesReadBack};
+ghost use Rattle.sial_meaning.specs.HeldLaws.{AssignmentsAreHeld};
 ghost use Rattle.sial_meaning.specs.ReadBackLaws.{AsManyElements, CopiesByName, EachElementIsMet, InsertionsKeepOthers, InsertsByPosition, SlicesByPosition};
 
 /// Every element of the result, whatever the right side is.
@@ -24,4 +25,9 @@ pub fn granted_copies_read_back()
     ensures slice { SlicesReadBack }
     ensures insertion { InsertionsReadBack }
     ensures rest { InsertionsLeaveTheRest }
+{}
+
+/// What an assignment to a block leaves is what its target reads from then on.
+pub fn assignments_are_held()
+    ensures { AssignmentsAreHeld }
 {}
