@@ -1,14 +1,13 @@
 -- Chains of calls: without recursion they repeat no procedure, so they are no longer than there are procedures.
-use Rattle.std.proofs.Common.{◌≡◌, ℕ, zero, suc, ◌+◌, ◌<◌, ◌≤◌, max, List, [], ◌∷◌, ◌++◌, map, filter, flat_map, length, get_or, slice_index_or, fold, Bool, true, false, cond, not, ◌&&◌, ◌||◌, eqb, eqb-true, eq-eqb, nat_lt, nat_le, ◌⊎◌, inl, inr, refl, sym, ap, ◌∙◌, subst, arith, le_trans, Option, Some, None, IsTrue}
-use Rattle.std.specs.List.{list_any, list_all, enumerate_from}
-use Rattle.std.proofs.lemmas.Bool.{or_cases, or_left, or_right, or_parts, or_from, and_parts, ltb-true, ltb-false, cases_Bool, eqb-false, ne_eqb}
+use Rattle.std.proofs.Common.{◌≡◌, ℕ, zero, suc, ◌+◌, ◌<◌, ◌≤◌, List, [], ◌∷◌, filter, flat_map, length, slice_index_or, Bool, true, false, cond, eqb, eqb-true, eq-eqb, ◌⊎◌, inl, inr, refl, sym, ap, ◌∙◌, subst, arith, None}
+use Rattle.std.specs.List.{list_any, enumerate_from}
+use Rattle.std.proofs.lemmas.Bool.{or_cases, or_left, or_right, or_parts, or_from, eqb-false}
 use Rattle.sial_syntax.specs.Agreeing.{contains, has_twice}
-use Rattle.sial_syntax.specs.Proper.{has_procedure, proper_body, proper_form, has_index, has_length, proper_cond}
 use Rattle.sial_syntax.specs.Sides.{called_by}
-use Rattle.sial_syntax.specs.SideRules.{calls_of, reaches, recursive_calls, recursion, depth_of, least}
-use Rattle.sial_syntax.specs.Tree.{Tree, Procedure, Block, End, Then, Plain, Do, DoIn, Pardo, If, IfElse, Call}
-use Rattle.sial_syntax.specs.Visits.{Visit, visits, inner_visits, body_visits}
-use Rattle.sial_syntax.proofs.AmongLemmas.{Among, among_left, among_right, among_either, among_flat, among_flat_from, any_at, any_from, none_at, all_from, all_at, contains_at, among_from, among_numbered, map_none, append_none, filter_none}
+use Rattle.sial_syntax.specs.SideRules.{calls_of, reaches, recursive_calls, recursion, least}
+use Rattle.sial_syntax.specs.Tree.{Tree, Procedure, End}
+use Rattle.sial_syntax.specs.Visits.{Visit, body_visits}
+use Rattle.sial_syntax.proofs.AmongLemmas.{Among, among_flat_from, any_at, any_from, none_at, among_from, among_numbered, map_none, append_none, filter_none}
 
 -- all numbers are below a bound
 abbrev pub Below : ℕ → List ℕ → Type 0

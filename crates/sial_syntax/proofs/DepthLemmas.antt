@@ -1,11 +1,10 @@
 -- How deep procedures call in a proper program that the side rules grant.
-use Rattle.std.proofs.Common.{◌≡◌, ℕ, zero, suc, ◌+◌, ◌<◌, ◌≤◌, max, List, [], ◌∷◌, ◌++◌, map, flat_map, length, get_or, slice_index_or, fold, Bool, true, false, ◌&&◌, nat_lt, nat_le, ◌⊎◌, inl, inr, ⊎_elim, refl, sym, ap, ◌∙◌, subst, arith, None, IsTrue}
-use Rattle.std.specs.List.{list_any, list_all}
+use Rattle.std.proofs.Common.{◌≡◌, ℕ, zero, suc, ◌+◌, ◌<◌, ◌≤◌, max, List, [], ◌∷◌, ◌++◌, map, length, slice_index_or, fold, Bool, true, false, ◌&&◌, nat_lt, nat_le, inl, inr, ⊎_elim, refl, sym, ap, subst, arith, None, IsTrue}
+use Rattle.std.specs.List.{list_all}
 use Rattle.std.proofs.lemmas.Bool.{and_parts, ltb-true, ltb-false}
-use Rattle.std.proofs.lemmas.List.Concat.{flat_map-append}
 use Rattle.sial_syntax.specs.Limits.{most_depth, most_pardo, most_nesting}
 use Rattle.sial_syntax.specs.Names.{is_name}
-use Rattle.sial_syntax.specs.Proper.{IsProper, has_procedure, has_index, has_length, proper_body, proper_form, proper_cond, proper_depth, proper_procedure, body_nesting}
+use Rattle.sial_syntax.specs.Proper.{IsProper, has_index, has_length, proper_body, proper_form, proper_cond, proper_depth, proper_procedure, body_nesting}
 use Rattle.sial_syntax.specs.Sides.{called_by}
 use Rattle.sial_syntax.specs.SideRules.{calls_of, recursion, depth_of}
 use Rattle.sial_syntax.specs.Tree.{Tree, Procedure, Block, End, Then, Plain, Do, DoIn, Pardo, If, IfElse, Call}
@@ -19,43 +18,49 @@ shallow p zero procedure = false
 shallow p (suc most) procedure = list_all (shallow p most) (calls_of p procedure)
 
 -- the procedure that a proper statement calls is there
-form_called : (p : Tree) (form : Plain) → IsTrue (proper_form p form) → (q : ℕ) → Among q (called_by form) → q < length p.procedures
+pub form_called : (p : Tree) (form : Plain) → IsTrue (proper_form p form) → (q : ℕ) → Among q (called_by form) → q < length p.procedures
 form_called p (Call procedure) there q m =
     ⊎_elim (λ same. subst (λ (x : ℕ). x < length p.procedures) (sym same) (ltb-true procedure (length p.procedures) there)) (λ none. absurd none) m
 form_called p form there q m = absurd m
 
 mutual
-  -- the procedures that a proper body calls are there
-  pub body_calls : (p : Tree) (bound : List ℕ) (within : Bool) (body : Block) → IsTrue (proper_body p body) → (v : Visit) (q : ℕ) → Among v (visits bound within body) → Among q (called_by v.form) → q < length p.procedures
-  body_calls p bound within End there v q m c = absurd m
-  body_calls p bound within (Then line form rest) there v q (inl same) c =
-      form_called p form (and_parts (proper_form p form) (proper_body p rest) there).0 q (subst (λ (x : Visit). Among q (called_by x.form)) same c)
-  body_calls p bound within (Then line form rest) there v q (inr m) c =
+  -- the parts of each statement of a proper body are there
+  pub body_form : (p : Tree) (bound : List ℕ) (within : Bool) (body : Block) → IsTrue (proper_body p body) → (v : Visit) → Among v (visits bound within body) → IsTrue (proper_form p v.form)
+  body_form p bound within End there v m = absurd m
+  body_form p bound within (Then line form rest) there v m =
       let parts = and_parts (proper_form p form) (proper_body p rest) there in
       ⊎_elim
-      (λ n. form_calls p bound within form parts.0 v q n c)
-      (λ n. body_calls p bound within rest parts.1 v q n c)
-      (among_either v (inner_visits bound within form) (visits bound within rest) m)
+      (λ (same : v ≡ record { line = line; form = form; bound = bound; within = within }). subst (λ (x : Visit). IsTrue (proper_form p x.form)) (sym same) parts.0)
+      (λ (n : Among v (inner_visits bound within form ++ visits bound within rest)).
+      ⊎_elim
+      (λ k. form_form p bound within form parts.0 v k)
+      (λ k. body_form p bound within rest parts.1 v k)
+      (among_either v (inner_visits bound within form) (visits bound within rest) n))
+      m
 
-  -- so are those that the statements inside one call
-  pub form_calls : (p : Tree) (bound : List ℕ) (within : Bool) (form : Plain) → IsTrue (proper_form p form) → (v : Visit) (q : ℕ) → Among v (inner_visits bound within form) → Among q (called_by v.form) → q < length p.procedures
-  form_calls p bound within (Do index body) there v q m c = body_calls p (index ∷ bound) within body (and_parts (has_index p index) (proper_body p body) there).1 v q m c
-  form_calls p bound within (DoIn sub index body) there v q m c =
+  -- so are those of each statement inside one
+  pub form_form : (p : Tree) (bound : List ℕ) (within : Bool) (form : Plain) → IsTrue (proper_form p form) → (v : Visit) → Among v (inner_visits bound within form) → IsTrue (proper_form p v.form)
+  form_form p bound within (Do index body) there v m = body_form p (index ∷ bound) within body (and_parts (has_index p index) (proper_body p body) there).1 v m
+  form_form p bound within (DoIn sub index body) there v m =
       let parts = and_parts (has_index p sub) (has_index p index && proper_body p body) there in
-      body_calls p (sub ∷ bound) within body (and_parts (has_index p index) (proper_body p body) parts.1).1 v q m c
-  form_calls p bound within (Pardo indices wheres body) there v q m c =
+      body_form p (sub ∷ bound) within body (and_parts (has_index p index) (proper_body p body) parts.1).1 v m
+  form_form p bound within (Pardo indices wheres body) there v m =
       let ranked = and_parts (has_length most_pardo indices) (list_all (has_index p) indices && (list_all (proper_cond p) wheres && proper_body p body)) there in
       let indexed = and_parts (list_all (has_index p) indices) (list_all (proper_cond p) wheres && proper_body p body) ranked.1 in
-      body_calls p (indices ++ bound) true body (and_parts (list_all (proper_cond p) wheres) (proper_body p body) indexed.1).1 v q m c
-  form_calls p bound within (If test body) there v q m c = body_calls p bound within body (and_parts (proper_cond p test) (proper_body p body) there).1 v q m c
-  form_calls p bound within (IfElse test body other) there v q m c =
+      body_form p (indices ++ bound) true body (and_parts (list_all (proper_cond p) wheres) (proper_body p body) indexed.1).1 v m
+  form_form p bound within (If test body) there v m = body_form p bound within body (and_parts (proper_cond p test) (proper_body p body) there).1 v m
+  form_form p bound within (IfElse test body other) there v m =
       let tested = and_parts (proper_cond p test) (proper_body p body && proper_body p other) there in
       let parts = and_parts (proper_body p body) (proper_body p other) tested.1 in
       ⊎_elim
-      (λ n. body_calls p bound within body parts.0 v q n c)
-      (λ n. body_calls p bound within other parts.1 v q n c)
+      (λ n. body_form p bound within body parts.0 v n)
+      (λ n. body_form p bound within other parts.1 v n)
       (among_either v (visits bound within body) (visits bound within other) m)
-  form_calls p bound within form there v q m c = absurd m
+  form_form p bound within form there v m = absurd m
+
+-- the procedures that a proper body calls are there
+pub body_calls : (p : Tree) (bound : List ℕ) (within : Bool) (body : Block) → IsTrue (proper_body p body) → (v : Visit) (q : ℕ) → Among v (visits bound within body) → Among q (called_by v.form) → q < length p.procedures
+body_calls p bound within body there v q m c = form_called p v.form (body_form p bound within body there v m) q c
 
 -- the parts of a procedure's statements are there
 pub procedure_there : (p : Tree) (procedures : List Procedure) (number : ℕ) → IsTrue (list_all (proper_procedure p) procedures) → IsTrue (proper_body p (slice_index_or procedures number no_procedure).body)

@@ -1,12 +1,9 @@
 -- What the side rules and the classes say of each statement of a granted program.
-use Rattle.std.proofs.Common.{◌≡◌, ℕ, ◌+◌, ◌<◌, List, [], ◌∷◌, ◌++◌, map, flat_map, length, slice_index_or, Bool, true, false, ◌&&◌, not, if◌then◌else◌, Option, Some, None, filter, refl, sym, ap, ◌∙◌, arith}
-use Rattle.std.specs.List.{list_any, enumerate_from}
+use Rattle.std.proofs.Common.{◌≡◌, ℕ, ◌+◌, ◌<◌, List, [], ◌∷◌, ◌++◌, length, slice_index_or, Bool, true, false, ◌&&◌, not, if◌then◌else◌, Option, Some, None, filter, refl, sym, ap, ◌∙◌, arith}
+use Rattle.std.specs.List.{list_any}
 use Rattle.std.proofs.lemmas.Bool.{and_from}
-use Rattle.sial_syntax.specs.declared.array.ArrayDecl.{ArrayDecl}
 use Rattle.sial_syntax.specs.declared.array.ArrayKind.TheVariants.{Local}
-use Rattle.sial_syntax.specs.declared.classes.ScalarClass.{ScalarClass}
 use Rattle.sial_syntax.specs.declared.classes.ScalarClass.TheVariants.{Replicated}
-use Rattle.sial_syntax.specs.declared.classes.Side.{Side}
 use Rattle.sial_syntax.specs.declared.classes.Side.TheVariants.{Inner, Unused}
 use Rattle.sial_syntax.specs.Agreeing.{contains, has_kind}
 use Rattle.sial_syntax.specs.Parts.{scalars_written, arrays_named}

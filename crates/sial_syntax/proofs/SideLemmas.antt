@@ -1,14 +1,14 @@
 -- The sides of statements: a call on a side gives the procedure that side.
-use Rattle.std.proofs.Common.{◌≡◌, ℕ, zero, suc, ◌+◌, ◌<◌, ◌≤◌, List, [], ◌∷◌, ◌++◌, map, filter, flat_map, length, get_or, slice_index_or, replicate, fold, Bool, true, false, ◌||◌, ◌⊎◌, inl, inr, ⊎_elim, refl, sym, ap, ◌∙◌, subst, arith, None, IsTrue}
+use Rattle.std.proofs.Common.{◌≡◌, ℕ, zero, suc, ◌+◌, ◌<◌, ◌≤◌, List, [], ◌∷◌, map, filter, length, slice_index_or, fold, Bool, true, false, ◌||◌, ◌⊎◌, inl, inr, ⊎_elim, refl, sym, ap, ◌∙◌, subst, arith, None}
 use Rattle.std.specs.List.{list_any, enumerate_from}
 use Rattle.std.proofs.lemmas.Bool.{or_cases, or_left, or_right}
 use Rattle.std.proofs.lemmas.List.{length-map, length-replicate}
 use Rattle.std.proofs.lemmas.List.FromFn.{length-enumerate_from}
 use Rattle.sial_syntax.specs.Agreeing.{contains}
-use Rattle.sial_syntax.specs.Proper.{IsProper, proper_body}
+use Rattle.sial_syntax.specs.Proper.{IsProper}
 use Rattle.sial_syntax.specs.Sides.{Sides, Sided, no_side, either_side, sides_at, called_by, sided_body, sided_procedures, sided, sides_given, procedure_sides, all_sided}
-use Rattle.sial_syntax.specs.SideRules.{calls_of, recursion}
-use Rattle.sial_syntax.specs.Tree.{Tree, Procedure, Block}
+use Rattle.sial_syntax.specs.SideRules.{recursion}
+use Rattle.sial_syntax.specs.Tree.{Tree, Procedure}
 use Rattle.sial_syntax.specs.Visits.{Visit, body_visits}
 use Rattle.sial_syntax.proofs.AmongLemmas.{Among, among_left, among_right, among_either, among_map, among_map_from, among_filter, among_filter_from, among_flat, any_at, any_from, contains_at, among_from, numbered_at}
 use Rattle.sial_syntax.proofs.CallLemmas.{Below, Chain, chain_short, no_procedure}
