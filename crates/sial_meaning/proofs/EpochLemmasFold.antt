@@ -167,7 +167,7 @@ module _ (g : Setting) (present copied : ℕ → State → Outcome) (called : (p
 
 module _ (g : Setting) (proper : IsProper g.program) where
   -- procedures that may call so deep
-  calls_agree : (d procedure : ℕ) (s : State) → AgreeFrom s (calls Present g d procedure s) (calls Copied g d procedure s)
+  pub calls_agree : (d procedure : ℕ) (s : State) → AgreeFrom s (calls Present g d procedure s) (calls Copied g d procedure s)
   calls_agree zero procedure s = from_here s
   calls_agree (suc d) procedure s =
       from_after

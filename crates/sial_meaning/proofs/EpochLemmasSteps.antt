@@ -40,7 +40,7 @@ FineAt p (Halted trap s) = Unit {0}
 FineAt p Ended = Unit {0}
 
 -- steps logged behind what was logged
-abbrev ExtendsAt : List Touch → Stepped → Type 0
+abbrev pub ExtendsAt : List Touch → Stepped → Type 0
 ExtendsAt log (Moved w) = Extends log w.state.log
 ExtendsAt log (Halted trap s) = Extends log s.log
 ExtendsAt log Ended = Unit {0}
@@ -215,7 +215,7 @@ module _ (reading : Reading) (g : Setting) where
   next_extends at line form rest s = done_extends s.log (statement reading g line form s) rest (statement_extends reading g line form s)
 
   -- a step logs behind what was logged
-  step_extends : (r : Rest) (s : State) → ExtendsAt s.log (step_from reading g r s)
+  pub step_extends : (r : Rest) (s : State) → ExtendsAt s.log (step_from reading g r s)
   step_extends (Over at) s = tt
   step_extends (Next at line form rest) s = next_extends at line form rest s
   step_extends (Turn at head index last body rest) s = turned_extends (nat_lt (value_of s.own index) last) at head index last body rest s

@@ -2,6 +2,7 @@
 use Rattle.std.proofs.Common.{◌≡◌, ℕ, zero, suc, List, [], ◌∷◌, ◌++◌, map, filter, flat_map, Bool, true, false, cond, ◌&&◌, ◌||◌, nat_le, None, slice_index_or, refl, sym, ◌∙◌, IsTrue}
 use Rattle.std.specs.List.{list_all}
 use Rattle.std.proofs.lemmas.List.Elements.{filter-append}
+use Rattle.sial_syntax.proofs.AmongLemmas.{Among, filter_none}
 use Rattle.sial_syntax.specs.Agreeing.{contains, share_any, has_twice}
 use Rattle.sial_syntax.specs.Limits.{most_nesting}
 use Rattle.sial_syntax.specs.Parts.{indices_bound}
@@ -85,6 +86,20 @@ granted_unbroken p granted =
     let to_b = (append_none b (broken_at 3 (breaks_repeated p) (all_visits p)) to_c).0 in
     let second = (append_none a (broken_at 2 (breaks_rebound p) (all_visits p)) to_b).1 in
     map_none (λ (v : Visit). record { line = v.line; rule = 2 }) (filter (breaks_rebound p) (all_visits p)) second
+
+-- a granted program has no index, array or operand of a kind that may not stand there
+pub granted_kinds : (p : Tree) → IsGranted p → (v : Visit) → Among v (all_visits p) → breaks_kind p v ≡ false
+granted_kinds p granted v m =
+    let a = broken_at 1 (breaks_unbound p) (all_visits p) in
+    let b = a ++ broken_at 2 (breaks_rebound p) (all_visits p) in
+    let c = b ++ broken_at 3 (breaks_repeated p) (all_visits p) in
+    let d = c ++ declarations_broken p in
+    let e = d ++ broken_at 4 (breaks_kind p) (all_visits p) in
+    let f = e ++ broken_at 5 (breaks_indices p) (all_visits p) in
+    let to_f = (append_none f (broken_at 6 (breaks_writable p) (all_visits p)) (fault_none (shape_faults p) granted.shapes)).0 in
+    let to_e = (append_none e (broken_at 5 (breaks_indices p) (all_visits p)) to_f).0 in
+    let fourth = (append_none d (broken_at 4 (breaks_kind p) (all_visits p)) to_e).1 in
+    filter_none (breaks_kind p) v (all_visits p) (map_none (λ (w : Visit). record { line = w.line; rule = 4 }) (filter (breaks_kind p) (all_visits p)) fourth) m
 
 -- what stands for a procedure that isn't there
 abbrev no_procedure : Procedure

@@ -30,3 +30,4 @@ pub mod WorkedTraps
 pub mod MarkLaws
 pub mod WorkedUnset
 pub mod WorkedLater
+pub mod CourseLaws

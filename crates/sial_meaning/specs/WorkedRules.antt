@@ -18,7 +18,10 @@ use Rattle.sial_syntax.specs.Proper.{IsProper}
 use Rattle.sial_syntax.specs.Shapes.{shape_fault}
 use Rattle.sial_syntax.specs.SideRules.{side_fault}
 use Rattle.sial_syntax.specs.Sides.{scalar_classes}
+use Rattle.sial_meaning.specs.CourseLaws.{IsGrantedSetting}
+use Rattle.sial_meaning.specs.WorkedCalls.{nested, rooms}
 use Rattle.sial_meaning.specs.WorkedSmall.{small}
+use Rattle.sial_meaning.specs.WorkedUnset.{private}
 
 -- a partial scalar that a condition reads
 abbrev pub part : Setting
@@ -47,3 +50,10 @@ pub record PartIsRefused : Type 0 where
 -- a worked program is a proper tree
 abbrev pub SmallIsProper : Type 0
 SmallIsProper = IsProper small.program
+
+-- the laws of the course speak of worked programs: one with a collected sum, one with procedures, one with local arrays, one with private scalars
+pub record WorkedAreGranted : Type 0 where
+  pub small : IsGrantedSetting small
+  pub nested : IsGrantedSetting nested
+  pub rooms : IsGrantedSetting rooms
+  pub private : IsGrantedSetting private

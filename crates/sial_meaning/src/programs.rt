@@ -4,7 +4,7 @@ ghost use Rattle.sial_meaning.specs.WorkedClashes.{ApartRuns, ClashAddRuns, Clas
 ghost use Rattle.sial_meaning.specs.WorkedFirst.{BarrierRuns, FirstRuns, PlainRuns, WrapRuns};
 ghost use Rattle.sial_meaning.specs.WorkedOrders.{AgainRuns, GoneRuns, OrderOpenRuns, OrderRuns, OrderServedRuns, TwiceRuns};
 ghost use Rattle.sial_meaning.specs.WorkedPardos.{ChunksNoneRuns, ChunksRuns, ChunksThreeRuns, ShapeRuns, TightRuns, TurnsRuns};
-ghost use Rattle.sial_meaning.specs.WorkedRules.{PartIsRefused, SmallIsProper};
+ghost use Rattle.sial_meaning.specs.WorkedRules.{PartIsRefused, SmallIsProper, WorkedAreGranted};
 ghost use Rattle.sial_meaning.specs.WorkedServed.{DiskRuns, TopRuns};
 ghost use Rattle.sial_meaning.specs.WorkedSmall.{SmallRuns};
 
@@ -36,8 +36,9 @@ pub fn worked_programs()
     ensures top { TopRuns }
 {}
 
-/// What the rules say of a program that they refuse, and of one that is proper.
+/// What the rules say of a program that they refuse, of one that is proper, and of some that they grant.
 pub fn worked_rules()
     ensures part { PartIsRefused }
     ensures small { SmallIsProper }
+    ensures granted { WorkedAreGranted }
 {}
