@@ -1,6 +1,7 @@
 -- Steps lead to the same in both readings, or an access of both has clashed.
 use Rattle.std.proofs.Common.{◌≡◌, ℕ, zero, suc, ◌+◌, List, [], Bool, true, false, ◌&&◌, ◌⊎◌, ◌↔◌, Some, Ok, Err, length, nat_lt, refl, sym, ap, ◌∙◌, subst, inl, inr, IsTrue}
 use Rattle.std.specs.List.{list_all}
+use Rattle.sial_syntax.proofs.DepthLemmas.{procedure_there, body_there}
 use Rattle.sial_syntax.specs.declared.condition.Cond.{Cond}
 use Rattle.sial_syntax.specs.Boxes.{volume, tuple_at}
 use Rattle.sial_syntax.specs.Limits.{most_pardo}
@@ -22,7 +23,7 @@ use Rattle.sial_meaning.proofs.EpochLemmas.{Extends, Clashes, extends_same, exte
 use Rattle.sial_meaning.proofs.EpochLemmasFine.{Fine, FineTo, fine_start}
 use Rattle.sial_meaning.proofs.EpochLemmasStatement.{Agree, statement_agrees, statement_extends}
 use Rattle.sial_meaning.proofs.EpochLemmasFold.{proper_writes}
-use Rattle.sial_meaning.proofs.RestLemmasRules.{both, body_proper, procedure_proper}
+use Rattle.sial_meaning.proofs.RestLemmasRules.{both}
 
 -- the parts of all that is left to do are there
 abbrev pub ProperRest : Tree → Rest → Type 0
@@ -156,7 +157,7 @@ module _ (g : Setting) (proper : IsProper g.program) where
             fine,
       )
   next_agrees at line (Call procedure) rest s there others fine =
-      inl (refl, called_fine g (nat_lt (depth rest) call_depth) procedure rest s (procedure_proper g.program g.program.procedures procedure proper.procedures) others fine)
+      inl (refl, called_fine g (nat_lt (depth rest) call_depth) procedure rest s (procedure_there g.program g.program.procedures procedure proper.procedures) others fine)
   next_agrees at line form rest s there others fine =
       done_agrees g.program (statement Present g line form s) (statement Copied g line form s) rest others (statement_agrees g line form s (proper_writes g.program form there) fine)
 
@@ -276,5 +277,5 @@ same_states g count t proper clear =
     (steps Present g count (start_work g))
     (steps Copied g count (start_work g))
     t
-    (steps_agree g proper count (Moved (start_work g)) (pushed g.program 0 g.program.body (Over (stop_at g.program)) (body_proper g.program proper) tt, fine_start g))
+    (steps_agree g proper count (Moved (start_work g)) (pushed g.program 0 g.program.body (Over (stop_at g.program)) (body_there g.program proper) tt, fine_start g))
     clear

@@ -22,7 +22,7 @@ pub record Grants (p : Tree) (x : Sided) : Type 0 where
   pub deep : breaks_depth p x ≡ false
 
 -- no first fault is no fault
-fault_none : (faults : List Fault) → first_fault faults ≡ None → faults ≡ []
+pub fault_none : (faults : List Fault) → first_fault faults ≡ None → faults ≡ []
 fault_none [] e = refl
 fault_none (f ∷ fs) e = absurd cc
 
