@@ -17,26 +17,26 @@ one-of-three a b c is =
 
 pub each-is-one-of-three : EachIsOneOfThree
 each-is-one-of-three g to from op sound copies =
-    one-of-three (same_set to.at from.at) (cuts_all g.program to.at from.at) (cuts_all g.program from.at to.at) (copy-agrees g.program to op from (rules-unbroken g.program sound.granted) copies)
+    one-of-three (same_set to.at from.at) (cuts_all g.program to.at from.at) (cuts_all g.program from.at to.at) (copy-agrees g.program to op from (rules-unbroken g.program sound.setting.granted) copies)
 
 pub copies-read-back : CopiesReadBack
 copies-read-back g to from op values old words tuple sound copies same is =
     copies-by-name g.spaces op values to.at from.at old words tuple
-    (named-once g.program to op from (rules-unbroken g.program sound.granted) copies).0
+    (named-once g.program to op from (rules-unbroken g.program sound.setting.granted) copies).0
     (second-holds (all_in to.at from.at) (all_in from.at to.at) same)
     is
 
 pub slices-read-back : SlicesReadBack
 slices-read-back g to from op values old words tuple sound copies cut is =
-    let once = named-once g.program to op from (rules-unbroken g.program sound.granted) copies in
+    let once = named-once g.program to op from (rules-unbroken g.program sound.setting.granted) copies in
     slices-by-position g.spaces op values to.at from.at old words tuple (no-part-of-part g sound) once.0 once.1 (sym (cuts-all-as-said g sound to.at from.at) ∙ cut) is
 
 pub insertions-read-back : InsertionsReadBack
 insertions-read-back g to from op values old words tuple sound copies cut is lie =
-    let once = named-once g.program to op from (rules-unbroken g.program sound.granted) copies in
+    let once = named-once g.program to op from (rules-unbroken g.program sound.setting.granted) copies in
     inserts-by-position g.spaces op values to.at from.at old words tuple (no-part-of-part g sound) once.0 once.1 (sym (cuts-all-as-said g sound from.at to.at) ∙ cut) is lie
 
 pub insertions-leave-the-rest : InsertionsLeaveTheRest
 insertions-leave-the-rest g to from op values old words tuple sound copies cut is lie =
-    let once = named-once g.program to op from (rules-unbroken g.program sound.granted) copies in
+    let once = named-once g.program to op from (rules-unbroken g.program sound.setting.granted) copies in
     insertions-keep-others g.spaces op values to.at from.at old words tuple (no-part-of-part g sound) once.0 once.1 (sym (cuts-all-as-said g sound from.at to.at) ∙ cut) is lie

@@ -1,6 +1,7 @@
 -- The fold does the same in both readings, or an access of both has clashed.
 use Rattle.std.proofs.Common.{◌≡◌, ℕ, zero, suc, List, [], ◌∷◌, Bool, true, false, ◌&&◌, Some, None, Ok, Err, sym, ap, ◌∙◌, subst, inl, inr, IsTrue}
 use Rattle.std.specs.List.{list_all}
+use Rattle.sial_syntax.proofs.DepthLemmas.{procedure_there, body_there}
 use Rattle.sial_syntax.specs.Boxes.{tuples}
 use Rattle.sial_syntax.specs.Limits.{most_pardo}
 use Rattle.sial_syntax.specs.Proper.{IsProper, has_index, has_length, is_write, proper_block, proper_body, proper_cond, proper_form}
@@ -18,7 +19,7 @@ use Rattle.sial_meaning.specs.Statement.{Outcome, Went, Stopped, after, Present,
 use Rattle.sial_meaning.proofs.EpochLemmas.{Extends, extends_same, extends_then, clash_is, up_to_clash_on}
 use Rattle.sial_meaning.proofs.EpochLemmasFine.{Fine, FineTo, fine_start}
 use Rattle.sial_meaning.proofs.EpochLemmasStatement.{Agree, Writes, alike, statement_agrees, statement_extends}
-use Rattle.sial_meaning.proofs.RestLemmasRules.{both, body_proper, procedure_proper}
+use Rattle.sial_meaning.proofs.RestLemmasRules.{both}
 
 -- two outcomes from one state: both log behind what was logged, and from a fine state they agree
 abbrev pub AgreeFrom : State → Outcome → Outcome → Type 0
@@ -167,7 +168,7 @@ module _ (g : Setting) (present copied : ℕ → State → Outcome) (called : (p
 
 module _ (g : Setting) (proper : IsProper g.program) where
   -- procedures that may call so deep
-  calls_agree : (d procedure : ℕ) (s : State) → AgreeFrom s (calls Present g d procedure s) (calls Copied g d procedure s)
+  pub calls_agree : (d procedure : ℕ) (s : State) → AgreeFrom s (calls Present g d procedure s) (calls Copied g d procedure s)
   calls_agree zero procedure s = from_here s
   calls_agree (suc d) procedure s =
       from_after
@@ -176,13 +177,13 @@ module _ (g : Setting) (proper : IsProper g.program) where
       (block_meaning Copied g (calls Copied g d) (procedure_body g procedure) (on_own none_bound s))
       (λ t. Went (on_own (with_values s.own.values) t))
       (λ t. Went (on_own (with_values s.own.values) t))
-      (block_agrees g (calls Present g d) (calls Copied g d) (calls_agree d) (procedure_body g procedure) (procedure_proper g.program g.program.procedures procedure proper.procedures) (on_own none_bound s))
+      (block_agrees g (calls Present g d) (calls Copied g d) (calls_agree d) (procedure_body g procedure) (procedure_there g.program g.program.procedures procedure proper.procedures) (on_own none_bound s))
       (λ t. from_here (on_own (with_values s.own.values) t))
 
   -- both meanings from the start
   meanings_agree : Agree (sequential g) (by_epochs g)
   meanings_agree =
-      (block_agrees g (calls Present g call_depth) (calls Copied g call_depth) (calls_agree call_depth) g.program.body (body_proper g.program proper) (start_state g)).0 (fine_start g)
+      (block_agrees g (calls Present g call_depth) (calls Copied g call_depth) (calls_agree call_depth) g.program.body (body_there g.program proper) (start_state g)).0 (fine_start g)
 
 -- outcomes that agree have one first refusal
 refusal_agrees : (p c : Outcome) → Agree p c → refusal_of c ≡ refusal_of p

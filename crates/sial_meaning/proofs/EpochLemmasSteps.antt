@@ -1,6 +1,7 @@
 -- Steps lead to the same in both readings, or an access of both has clashed.
 use Rattle.std.proofs.Common.{◌≡◌, ℕ, zero, suc, ◌+◌, List, [], Bool, true, false, ◌&&◌, ◌⊎◌, ◌↔◌, Some, Ok, Err, length, nat_lt, refl, sym, ap, ◌∙◌, subst, inl, inr, IsTrue}
 use Rattle.std.specs.List.{list_all}
+use Rattle.sial_syntax.proofs.DepthLemmas.{procedure_there, body_there}
 use Rattle.sial_syntax.specs.declared.condition.Cond.{Cond}
 use Rattle.sial_syntax.specs.Boxes.{volume, tuple_at}
 use Rattle.sial_syntax.specs.Limits.{most_pardo}
@@ -22,7 +23,7 @@ use Rattle.sial_meaning.proofs.EpochLemmas.{Extends, Clashes, extends_same, exte
 use Rattle.sial_meaning.proofs.EpochLemmasFine.{Fine, FineTo, fine_start}
 use Rattle.sial_meaning.proofs.EpochLemmasStatement.{Agree, statement_agrees, statement_extends}
 use Rattle.sial_meaning.proofs.EpochLemmasFold.{proper_writes}
-use Rattle.sial_meaning.proofs.RestLemmasRules.{both, body_proper, procedure_proper}
+use Rattle.sial_meaning.proofs.RestLemmasRules.{both}
 
 -- the parts of all that is left to do are there
 abbrev pub ProperRest : Tree → Rest → Type 0
@@ -40,7 +41,7 @@ FineAt p (Halted trap s) = Unit {0}
 FineAt p Ended = Unit {0}
 
 -- steps logged behind what was logged
-abbrev ExtendsAt : List Touch → Stepped → Type 0
+abbrev pub ExtendsAt : List Touch → Stepped → Type 0
 ExtendsAt log (Moved w) = Extends log w.state.log
 ExtendsAt log (Halted trap s) = Extends log s.log
 ExtendsAt log Ended = Unit {0}
@@ -156,7 +157,7 @@ module _ (g : Setting) (proper : IsProper g.program) where
             fine,
       )
   next_agrees at line (Call procedure) rest s there others fine =
-      inl (refl, called_fine g (nat_lt (depth rest) call_depth) procedure rest s (procedure_proper g.program g.program.procedures procedure proper.procedures) others fine)
+      inl (refl, called_fine g (nat_lt (depth rest) call_depth) procedure rest s (procedure_there g.program g.program.procedures procedure proper.procedures) others fine)
   next_agrees at line form rest s there others fine =
       done_agrees g.program (statement Present g line form s) (statement Copied g line form s) rest others (statement_agrees g line form s (proper_writes g.program form there) fine)
 
@@ -215,7 +216,7 @@ module _ (reading : Reading) (g : Setting) where
   next_extends at line form rest s = done_extends s.log (statement reading g line form s) rest (statement_extends reading g line form s)
 
   -- a step logs behind what was logged
-  step_extends : (r : Rest) (s : State) → ExtendsAt s.log (step_from reading g r s)
+  pub step_extends : (r : Rest) (s : State) → ExtendsAt s.log (step_from reading g r s)
   step_extends (Over at) s = tt
   step_extends (Next at line form rest) s = next_extends at line form rest s
   step_extends (Turn at head index last body rest) s = turned_extends (nat_lt (value_of s.own index) last) at head index last body rest s
@@ -276,5 +277,5 @@ same_states g count t proper clear =
     (steps Present g count (start_work g))
     (steps Copied g count (start_work g))
     t
-    (steps_agree g proper count (Moved (start_work g)) (pushed g.program 0 g.program.body (Over (stop_at g.program)) (body_proper g.program proper) tt, fine_start g))
+    (steps_agree g proper count (Moved (start_work g)) (pushed g.program 0 g.program.body (Over (stop_at g.program)) (body_there g.program proper) tt, fine_start g))
     clear

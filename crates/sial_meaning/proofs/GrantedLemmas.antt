@@ -28,7 +28,9 @@ use Rattle.sial_meaning.specs.Setting.{Setting}
 use Rattle.sial_meaning.specs.Sight.{cuts, is_pieces_of}
 use Rattle.sial_meaning.specs.Sound.{IsSound}
 use Rattle.sial_meaning.proofs.PairLemmas.{never}
-use Rattle.sial_meaning.proofs.RestLemmasRules.{neither, append_none, map_none, kept_none, fault_none}
+use Rattle.sial_meaning.proofs.RestLemmasRules.{neither, kept_none}
+use Rattle.sial_syntax.proofs.AmongLemmas.{map_none, append_none}
+use Rattle.sial_syntax.proofs.GrantedLemmas.{fault_none}
 
 -- the shape rules that copies rest on, each broken nowhere
 pub record Unbroken (p : Tree) : Type 0 where
@@ -178,6 +180,6 @@ no-part-of-part g sound a b c first second =
     let p = g.program in
     let sub : is_sub_of p a b ≡ true = sym (cuts-as-said g sound a b) ∙ first in
     let under : is_sub_of p b c ≡ true = sym (cuts-as-said g sound b c) ∙ second in
-    let none : cuts_sub p (range_in p a) ≡ false = no-cut-sub p p.indices a (rules-unbroken p sound.granted).declared in
+    let none : cuts_sub p (range_in p a) ≡ false = no-cut-sub p p.indices a (rules-unbroken p sound.setting.granted).declared in
     let not-sub : is_sub p b ≡ false = ap (cuts_sub p) (sym (declared-sub (range_in p a) b sub)) ∙ none in
     never (sym not-sub ∙ cutting-is-sub (range_in p b) c under)

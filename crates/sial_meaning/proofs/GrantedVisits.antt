@@ -13,7 +13,9 @@ use Rattle.sial_syntax.specs.Tree.{Tree, Procedure, Block, End, Then, Plain, Do,
 use Rattle.sial_syntax.specs.Visits.{Visit, visits, inner_visits, body_visits, all_visits}
 use Rattle.sial_meaning.specs.Setting.{Setting, procedure_body}
 use Rattle.sial_meaning.specs.Sound.{IsSound}
-use Rattle.sial_meaning.proofs.RestLemmasRules.{both, append_none, map_none, kept_none, fault_none}
+use Rattle.sial_meaning.proofs.RestLemmasRules.{both, kept_none}
+use Rattle.sial_syntax.proofs.AmongLemmas.{map_none, append_none}
+use Rattle.sial_syntax.proofs.GrantedLemmas.{fault_none}
 
 -- a statement, where it stands, whose parts are there, that breaks no rule of shape, and whose indices lie within the declared ones
 pub record Good (g : Setting) (v : Visit) : Type 0 where
@@ -187,8 +189,8 @@ declared-granted p granted = (rules-of p granted).declared
 -- all statements of a sound setting are good
 pub all-good : (g : Setting) → IsSound g → AllGood g (all_visits g.program)
 all-good g sound =
-    let rules = rules-of g.program sound.granted in
-    good-by g (all_visits g.program) (proper-all g sound.proper)
+    let rules = rules-of g.program sound.setting.granted in
+    good-by g (all_visits g.program) (proper-all g sound.setting.proper)
     (record { unbound = rules.unbound; rebound = rules.rebound; kind = rules.kind; indices = rules.indices; writable = rules.writable; within = sound.spaces.1.within })
 
 -- those of the program's body

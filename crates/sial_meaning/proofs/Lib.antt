@@ -50,3 +50,15 @@ pub mod WorkedUnsetRuns
 pub mod EpochOrderLemmas
 pub mod WorkedLaterRuns
 pub mod WorkedSpacesRuns
+pub mod ControlLemmas
+pub mod ControlLemmasStatement
+pub mod ControlLemmasFold
+pub mod CourseLemmasStand
+pub mod ControlLemmasCalls
+pub mod CourseLemmasDepth
+pub mod CourseLemmasRest
+pub mod CourseLemmasFit
+pub mod CourseLemmasPardo
+pub mod CourseLemmasKept
+pub mod CourseLemmasSteps
+pub mod CourseLemmasWalk

@@ -229,7 +229,7 @@ none-cut g sound (d ∷ ds) none =
 -- an array that isn't temp is cut nowhere
 pub array-whole : (g : Setting) → IsSound g → (a : ℕ) → same_kind (array_kind g a) Temp ≡ false → AllWhole g (dims_of g a)
 array-whole g sound a other =
-    elim (whole-dims g.program g.program.arrays a (declared-granted g.program sound.granted).arrays) as (λ q. AllWhole g (dims_of g a)) [
+    elim (whole-dims g.program g.program.arrays a (declared-granted g.program sound.setting.granted).arrays) as (λ q. AllWhole g (dims_of g a)) [
       | inl temp ↦ absurd (never (sym other ∙ temp))
       | inr none ↦ none-cut g sound (dims_of g a) none
     ]

@@ -27,7 +27,7 @@ use Rattle.sial_meaning.proofs.RestLemmasTurns.{depth_pushed, first_among, over_
 
 module _ (reading : Reading) (g : Setting) (proper : IsProper g.program) (granted : IsGranted g.program) where
   -- calls that may go so deep lead where they mean to
-  abbrev CallsLead : ℕ → Type 0
+  abbrev pub CallsLead : ℕ → Type 0
   CallsLead d = (procedure at line : ℕ) (r : Rest) (s : State) → d + depth r ≡ call_depth → length s.own.values ≡ length g.program.indices → Leads reading g (Next at line (Call procedure) r) s (done (calls reading g d procedure s) r)
 
   module _ (d : ℕ) (calls_lead : CallsLead d) where
@@ -38,7 +38,7 @@ module _ (reading : Reading) (g : Setting) (proper : IsProper g.program) (grante
 
     mutual
       -- statements before the rest lead to the rest, with the state of the fold
-      block_leads : (indices : List ℕ) (within : Bool) (body : Block) → IsTrue (proper_body g.program body) → Unbroken g.program (visits indices within body) → (at : ℕ) (r : Rest) (s : State) → d + depth r ≡ call_depth → length s.own.values ≡ length g.program.indices → Leads reading g (push at body r) s (done (block_meaning reading g (calls reading g d) body s) r)
+      pub block_leads : (indices : List ℕ) (within : Bool) (body : Block) → IsTrue (proper_body g.program body) → Unbroken g.program (visits indices within body) → (at : ℕ) (r : Rest) (s : State) → d + depth r ≡ call_depth → length s.own.values ≡ length g.program.indices → Leads reading g (push at body r) s (done (block_meaning reading g (calls reading g d) body s) r)
       block_leads indices within End there e at r s deep len = leads_here reading g r s
       block_leads indices within (Then line form more) there e at r s deep len =
           let parts = both (proper_form g.program form) (proper_body g.program more) there in
@@ -60,7 +60,7 @@ module _ (reading : Reading) (g : Setting) (proper : IsProper g.program) (grante
           block_leads indices within more parts.1 inner.1 (at + size form) r s1 deep (kept.len ∙ len))
 
       -- so does each
-      form_leads : (indices : List ℕ) (within : Bool) (form : Plain) → IsTrue (proper_form g.program form) → share_any (indices_bound form) indices ≡ false → Unbroken g.program (inner_visits indices within form) → (at line : ℕ) (r : Rest) (s : State) → d + depth r ≡ call_depth → length s.own.values ≡ length g.program.indices → Leads reading g (Next at line form r) s (done (form_meaning reading g (calls reading g d) line form s) r)
+      pub form_leads : (indices : List ℕ) (within : Bool) (form : Plain) → IsTrue (proper_form g.program form) → share_any (indices_bound form) indices ≡ false → Unbroken g.program (inner_visits indices within form) → (at line : ℕ) (r : Rest) (s : State) → d + depth r ≡ call_depth → length s.own.values ≡ length g.program.indices → Leads reading g (Next at line form r) s (done (form_meaning reading g (calls reading g d) line form s) r)
       form_leads indices within (Do index body) there out e at line r s deep len =
           let parts = both (has_index g.program index) (proper_body g.program body) there in
           leads_step
@@ -224,7 +224,7 @@ module _ (reading : Reading) (g : Setting) (proper : IsProper g.program) (grante
           leads_step reading g (Next at line form r) s (done (statement reading g line form s) r) (comes_here reading g (done (statement reading g line form s) r))
 
   -- calls lead where they mean to, however deep they may go
-  calls_lead : (d : ℕ) → CallsLead d
+  pub calls_lead : (d : ℕ) → CallsLead d
   calls_lead zero procedure at line r s deep len =
       leads_step
       reading

@@ -1,15 +1,16 @@
 -- What the rules give of the statements of a proper program.
-use Rattle.std.proofs.Common.{◌≡◌, ℕ, zero, suc, List, [], ◌∷◌, ◌++◌, map, filter, flat_map, Bool, true, false, cond, ◌&&◌, ◌||◌, nat_le, None, slice_index_or, refl, sym, ◌∙◌, IsTrue}
-use Rattle.std.specs.List.{list_all}
+use Rattle.std.proofs.Common.{◌≡◌, ℕ, zero, suc, List, [], ◌∷◌, ◌++◌, filter, flat_map, Bool, true, false, cond, ◌&&◌, ◌||◌, slice_index_or, refl, sym, ◌∙◌, IsTrue}
 use Rattle.std.proofs.lemmas.List.Elements.{filter-append}
+use Rattle.sial_syntax.proofs.AmongLemmas.{Among, filter_none, map_none, append_none}
+use Rattle.sial_syntax.proofs.CallLemmas.{no_procedure}
+use Rattle.sial_syntax.proofs.DepthLemmas.{procedure_there, body_there}
+use Rattle.sial_syntax.proofs.GrantedLemmas.{fault_none}
 use Rattle.sial_syntax.specs.Agreeing.{contains, share_any, has_twice}
-use Rattle.sial_syntax.specs.Limits.{most_nesting}
 use Rattle.sial_syntax.specs.Parts.{indices_bound}
-use Rattle.sial_syntax.specs.Proper.{IsProper, proper_body, proper_depth, proper_procedure, body_nesting}
-use Rattle.sial_syntax.specs.Names.{is_name}
-use Rattle.sial_syntax.specs.Shapes.{Fault, first_fault, broken_at, shape_faults, declarations_broken, breaks_unbound, breaks_rebound, breaks_repeated, breaks_kind, breaks_indices, breaks_writable}
+use Rattle.sial_syntax.specs.Proper.{IsProper, proper_body}
+use Rattle.sial_syntax.specs.Shapes.{broken_at, shape_faults, declarations_broken, breaks_unbound, breaks_rebound, breaks_repeated, breaks_kind, breaks_indices, breaks_writable}
 use Rattle.sial_syntax.specs.SideRules.{IsGranted}
-use Rattle.sial_syntax.specs.Tree.{Tree, Procedure, Block, End}
+use Rattle.sial_syntax.specs.Tree.{Tree, Procedure, Block}
 use Rattle.sial_syntax.specs.Visits.{Visit, visits, body_visits, all_visits}
 use Rattle.sial_meaning.specs.Setting.{Setting, procedure_body}
 
@@ -31,16 +32,6 @@ both false b e = absurd cc
 pub neither : (a b : Bool) → (a || b) ≡ false → (a ≡ false) × (b ≡ false)
 neither true b e = absurd cc
 neither false b e = (refl, e)
-
--- no list is empty that has others before or behind it
-pub append_none : {X : Type 0} (xs ys : List X) → xs ++ ys ≡ [] → (xs ≡ []) × (ys ≡ [])
-append_none [] ys e = (refl, e)
-append_none (x ∷ xs) ys e = absurd cc
-
--- no list is empty whose image has entries
-pub map_none : {X Y : Type 0} (f : X → Y) (xs : List X) → map f xs ≡ [] → xs ≡ []
-map_none f [] e = refl
-map_none f (x ∷ xs) e = absurd cc
 
 -- an entry that is left out
 pub kept_none : {X : Type 0} (b : Bool) (x : X) (xs : List X) → cond b (x ∷ xs) xs ≡ [] → (b ≡ false) × (xs ≡ [])
@@ -64,11 +55,6 @@ unbound_there p v e = (neither (share_any (indices_bound v.form) v.bound) (has_t
 pub unbound_one : (bound : List ℕ) (index : ℕ) (indices : List ℕ) → share_any (index ∷ indices) bound ≡ false → (contains bound index ≡ false) × (share_any indices bound ≡ false)
 unbound_one bound index indices e = neither (contains bound index) (share_any indices bound) e
 
--- no first fault is no fault
-pub fault_none : (faults : List Fault) → first_fault faults ≡ None → faults ≡ []
-fault_none [] e = refl
-fault_none (f ∷ fs) e = absurd cc
-
 -- a granted program binds no bound index again
 pub granted_unbroken : (p : Tree) → IsGranted p → Unbroken p (all_visits p)
 granted_unbroken p granted =
@@ -86,9 +72,19 @@ granted_unbroken p granted =
     let second = (append_none a (broken_at 2 (breaks_rebound p) (all_visits p)) to_b).1 in
     map_none (λ (v : Visit). record { line = v.line; rule = 2 }) (filter (breaks_rebound p) (all_visits p)) second
 
--- what stands for a procedure that isn't there
-abbrev no_procedure : Procedure
-no_procedure = record { name = []; body = End }
+-- a granted program has no index, array or operand of a kind that may not stand there
+pub granted_kinds : (p : Tree) → IsGranted p → (v : Visit) → Among v (all_visits p) → breaks_kind p v ≡ false
+granted_kinds p granted v m =
+    let a = broken_at 1 (breaks_unbound p) (all_visits p) in
+    let b = a ++ broken_at 2 (breaks_rebound p) (all_visits p) in
+    let c = b ++ broken_at 3 (breaks_repeated p) (all_visits p) in
+    let d = c ++ declarations_broken p in
+    let e = d ++ broken_at 4 (breaks_kind p) (all_visits p) in
+    let f = e ++ broken_at 5 (breaks_indices p) (all_visits p) in
+    let to_f = (append_none f (broken_at 6 (breaks_writable p) (all_visits p)) (fault_none (shape_faults p) granted.shapes)).0 in
+    let to_e = (append_none e (broken_at 5 (breaks_indices p) (all_visits p)) to_f).0 in
+    let fourth = (append_none d (broken_at 4 (breaks_kind p) (all_visits p)) to_e).1 in
+    filter_none (breaks_kind p) v (all_visits p) (map_none (λ (w : Visit). record { line = w.line; rule = 4 }) (filter (breaks_kind p) (all_visits p)) fourth) m
 
 -- each procedure's statements are among all
 procedure_unbroken : (p : Tree) (procedures : List Procedure) (number : ℕ) → Unbroken p (flat_map (λ (q : Procedure). body_visits q.body) procedures) → Unbroken p (body_visits (slice_index_or procedures number no_procedure).body)
@@ -96,30 +92,17 @@ procedure_unbroken p [] number e = refl
 procedure_unbroken p (q ∷ qs) zero e = (unbroken_append p (body_visits q.body) (flat_map (λ (r : Procedure). body_visits r.body) qs) e).0
 procedure_unbroken p (q ∷ qs) (suc n) e = procedure_unbroken p qs n (unbroken_append p (body_visits q.body) (flat_map (λ (r : Procedure). body_visits r.body) qs) e).1
 
--- so are its parts
-pub procedure_proper : (p : Tree) (procedures : List Procedure) (number : ℕ) → IsTrue (list_all (proper_procedure p) procedures) → IsTrue (proper_body p (slice_index_or procedures number no_procedure).body)
-procedure_proper p [] number e = refl
-procedure_proper p (q ∷ qs) zero e =
-    let named = both (proper_procedure p q) (list_all (proper_procedure p) qs) e in
-    let deep = both (is_name q.name) (proper_depth p q.body) named.0 in
-    (both (proper_body p q.body) (nat_le (body_nesting q.body) most_nesting) deep.1).0
-procedure_proper p (q ∷ qs) (suc n) e = procedure_proper p qs n (both (proper_procedure p q) (list_all (proper_procedure p) qs) e).1
-
--- the parts of the program's own statements are there
-pub body_proper : (p : Tree) → IsProper p → IsTrue (proper_body p p.body)
-body_proper p proper = (both (proper_body p p.body) (nat_le (body_nesting p.body) most_nesting) proper.body).0
-
 -- the program's own statements
 pub body_sound : (p : Tree) → IsProper p → IsGranted p → Sound p [] false p.body
 body_sound p proper granted = record {
-  proper = body_proper p proper;
+  proper = body_there p proper;
   unbroken = (unbroken_append p (body_visits p.body) (flat_map (λ (q : Procedure). body_visits q.body) p.procedures) (granted_unbroken p granted)).0;
 }
 
 -- a procedure's statements
 pub procedure_sound : (g : Setting) → IsProper g.program → IsGranted g.program → (procedure : ℕ) → Sound g.program [] false (procedure_body g procedure)
 procedure_sound g proper granted procedure = record {
-  proper = procedure_proper g.program g.program.procedures procedure proper.procedures;
+  proper = procedure_there g.program g.program.procedures procedure proper.procedures;
   unbroken =
       procedure_unbroken
       g.program

@@ -25,7 +25,7 @@ after_after (Went s) f h = refl
 after_after (Stopped trap s) f h = refl
 
 -- what follows is the same
-same_after : (o : Outcome) (f h : State → Outcome) → ((s : State) → f s ≡ h s) → after o f ≡ after o h
+pub same_after : (o : Outcome) (f h : State → Outcome) → ((s : State) → f s ≡ h s) → after o f ≡ after o h
 same_after (Went s) f h e = e s
 same_after (Stopped trap s) f h e = refl
 

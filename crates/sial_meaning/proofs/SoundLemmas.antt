@@ -1,5 +1,5 @@
 -- Soundness of a setting, by computation.
-use Rattle.std.proofs.Common.{◌≡◌, ℕ, ◌≤◌, Bool, true, false, ◌==◌, ◌&&◌, not, nat_le, List, ◌∷◌, [], map, length, Some, None, refl, arith}
+use Rattle.std.proofs.Common.{◌≡◌, ℕ, ◌≤◌, Bool, true, false, ◌==◌, ◌&&◌, not, nat_le, List, ◌∷◌, [], map, length, Some, None, refl, sym, arith}
 use Rattle.std.specs.List.{list_all, enumerate_from}
 use Rattle.std.proofs.lemmas.Bool.{eqb-true}
 use Rattle.std.proofs.lemmas.Bool.Decides.{nat_tests}
@@ -115,10 +115,7 @@ pub sound-by : (g : Setting) (constants : Constants) → shape_fault g.program �
 sound-by g constants shapes sides proper spaces spans classes locals starts =
     let e = each (are_starts g) starts in
     record {
-      proper = proper-by g.program proper;
-      granted = record { shapes = shapes; sides = sides };
-      classes = classes;
-      sides = locals;
+      setting = record { proper = proper-by g.program proper; granted = record { shapes = shapes; sides = sides }; scalars = sym classes; sides = sym locals };
       spaces = (constants, spaces-by constants g.program g.spaces spaces spans);
       count = eqb-true (length g.numbers) (length g.program.scalars) e.0;
       numbers = e.1.0;

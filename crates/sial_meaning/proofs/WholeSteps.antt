@@ -194,7 +194,7 @@ reached-states-are-whole g s sound (reading, count, stands) = by-steps (steps re
 -- the state in which a program ends or traps is reached
 pub outcomes-are-reached : OutcomesAreReached
 outcomes-are-reached reading g sound =
-    let reaches = reaches_fold reading g sound.proper sound.granted in
+    let reaches = reaches_fold reading g sound.setting.proper sound.setting.granted in
     (reading, reaches.0, subst (λ t. StandsAt t (state_of (meaning reading g))) (sym reaches.1) (stands-done (meaning reading g) (Over (stop_at g.program))))
   where
     stands-done : (o : Outcome) (rest : Rest) → StandsAt (done o rest) (state_of o)

@@ -37,3 +37,4 @@ pub mod MarkLaws
 pub mod WorkedUnset
 pub mod WorkedLater
 pub mod WorkedSpaces
+pub mod CourseLaws

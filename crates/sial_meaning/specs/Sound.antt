@@ -36,12 +36,16 @@ abbrev pub given_twice : List Given → Bool
 given_twice [] = false
 given_twice (b ∷ bs) = list_any (same_given b) bs || given_twice bs
 
--- a proper program that the rules grant, with its classes and sides, its spaces, and start values that fit it
-pub record IsSound (g : Setting) : Type 0 where
+-- a setting whose program is proper and granted, with the classes and sides that are the program's own
+pub record IsGrantedSetting (g : Setting) : Type 0 where
   pub proper : IsProper g.program
   pub granted : IsGranted g.program
-  pub classes : scalar_classes g.program ≡ g.scalars
-  pub sides : array_sides g.program ≡ g.sides
+  pub scalars : g.scalars ≡ scalar_classes g.program
+  pub sides : g.sides ≡ array_sides g.program
+
+-- one that also has the program's spaces with some input, and start values that fit it
+pub record IsSound (g : Setting) : Type 0 where
+  pub setting : IsGrantedSetting g
   pub spaces : AreSpacesOf g.program g.spaces
   pub count : length g.numbers ≡ length g.program.scalars
   pub numbers : IsTrue (list_all is_number g.numbers)

@@ -2,3 +2,8 @@ pub mod TreeLemmas
 pub mod BoxLemmas
 pub mod RankLemmas
 pub mod FaultyPrograms
+pub mod AmongLemmas
+pub mod CallLemmas
+pub mod DepthLemmas
+pub mod SideLemmas
+pub mod GrantedLemmas
