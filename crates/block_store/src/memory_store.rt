@@ -31,7 +31,7 @@ impl Model for MemoryStore {
 }
 
 impl MemoryStore {
-    /// Takes a block of zeros for each size.
+    /// Takes a block of zeros for each size. With 2^32 numbers or more, too, it answers `OutOfMemory`.
     pub fn open(alloc: Global, sizes: &[u32]) -> Result<MemoryStore, OutOfMemory>
         ensures { IfOk result (λ store. store ≡ zeros sizes.now) }
     {
