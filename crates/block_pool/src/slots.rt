@@ -58,13 +58,6 @@ impl Slots {
         })
     }
 
-    // The class of each slot.
-    pub(crate) fn classes(&self) -> &[u32]
-        ensures { result.now ≡ self.now.classes }
-    {
-        self.classes.as_slice()
-    }
-
     // How many slots of a class are free.
     pub(crate) fn free(&self, class: u32) -> u32
         ensures { result ≡ free_slots class self.now.classes self.now.states }
