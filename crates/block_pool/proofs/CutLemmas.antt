@@ -1,6 +1,6 @@
 -- Words of all slots in one list, and the rows that are cut from it.
-use Rattle.std.proofs.Common.{◌≡◌, ℕ, zero, suc, ◌+◌, ◌-◌, ◌<◌, ◌≤◌, List, [], ◌∷◌, ◌++◌, length, map, get_or, set, take, drop, refl, ap, sym, ◌∙◌, arith, length-append, length-drop, append_assoc}
-use Rattle.std.specs.List.{concat, refill}
+use Rattle.std.proofs.Common.{◌≡◌, ℕ, zero, suc, ◌+◌, ◌<◌, ◌≤◌, List, [], ◌∷◌, ◌++◌, length, map, get_or, set, take, drop, refl, ap, sym, ◌∙◌, arith, length-append, length-drop, append_assoc}
+use Rattle.std.specs.List.{concat}
 use Rattle.std.proofs.lemmas.List.{take_at, drop_at, drop-drop, length-take-le, nil_from_length, take-append-drop, map-set, set-get_or, length-map, get_or-map}
 use Rattle.block_pool.specs.Memory.{with_front}
 use Rattle.block_pool.specs.Cut.{total, cut, begin_of, overlaid, written_back}

@@ -16,4 +16,5 @@ pub mod Frames
 pub mod Counting
 pub mod Closing
 pub mod LeaseLists
+pub mod Beside
 pub mod Laws

@@ -1,5 +1,5 @@
 -- Words of one list that meet others of it, and what this means for its rows.
-use Rattle.std.proofs.Common.{◌≡◌, ℕ, ◌+◌, ◌-◌, ◌<◌, ◌≤◌, List, [], ◌++◌, length, get_or, set, take, drop, slice_range, refl, ap, sym, ◌∙◌, arith, length-drop, append_assoc, append-nil}
+use Rattle.std.proofs.Common.{◌≡◌, ℕ, ◌+◌, ◌-◌, ◌<◌, ◌≤◌, List, [], ◌++◌, length, get_or, set, take, drop, slice_range, ap, sym, ◌∙◌, arith, length-drop, append_assoc, append-nil}
 use Rattle.std.proofs.lemmas.List.{take-take, drop-take, take-append-drop, drop-append-le, length-take-le, take_rest, drop_all}
 use Rattle.std.proofs.lemmas.Slice.{between_is}
 use Rattle.block_pool.specs.declared.how.How.{How}

@@ -52,7 +52,7 @@ refilled_is p t ws within len = ap (λ (words : List (List ℕ)). record p { wor
 
 -- whatever was lent, all slots stand as before
 pub refilled_stands : (p : Memory) (t : ℕ) (ws : List ℕ) (s : State) (x : ℕ) → Stands p s x → Stands (refilled p t ws) s x
-refilled_stands p t ws s x st = record { state = st.state; within = rw (length-written_back p.words t ws) st.within; listed = st.listed; }
+refilled_stands p t ws s x st = record { state = st.state; within = rw (length-written_back p.words t ws) st.within; listed = st.listed }
 
 -- so only that slot has changed
 pub refilled_changes : (p : Memory) (t : ℕ) (s : State) (ws : List ℕ) → Stands p s t → length ws ≡ length (words_at p.words t) → Changes p (refilled p t ws) t s ws

@@ -48,21 +48,23 @@ row_lent widths words now slot start ws view whole from =
     ∙ cut-overlaid widths words.items slot ws whole
     ∙ ap (λ rows. written_back rows slot ws) view
 
--- two rows don't meet
+-- so many words from one place on don't meet those from another
 pub record AreApart (from to len : ℕ) : Type 0 where
   pub before : from < to → from + len ≤ to
   pub behind : to ≤ from → to + len ≤ from
 
+-- the places of two rows, by the widths
 places_apart : (widths : List ℕ) (i j len : ℕ) → i ≢ j → i < length widths → j < length widths → len ≤ get_or widths i 0 → len ≤ get_or widths j 0 → AreApart (total (take i widths)) (total (take j widths)) len
 places_apart widths i j len apart i_in j_in i_len j_len = elim (cases_lt i j) as (λ _. AreApart (total (take i widths)) (total (take j widths)) len) [
-  | inl low ↦ (let between = total_apart widths i j low j_in in record { before = λ h. omega arith; behind = λ h. omega arith; })
+  | inl low ↦ (let between = total_apart widths i j low j_in in record { before = λ h. omega arith; behind = λ h. omega arith })
   | inr high ↦ (
       let low : j < i = omega (arith, apart) in
       let between = total_apart widths j i low i_in in
-      record { before = λ h. omega arith; behind = λ h. omega arith; }
+      record { before = λ h. omega arith; behind = λ h. omega arith }
       )
 ]
 
+-- by where they stand
 pub rows_apart : (widths words : List ℕ) (now : List (List ℕ)) (i j len i_start i_end j_start j_end : ℕ) → RowAt widths words now i i_start i_end → RowAt widths words now j j_start j_end → i ≢ j
     → len ≤ length (get_or now i []) → len ≤ length (get_or now j []) → AreApart i_start j_start len
 rows_apart widths words now i j len i_start i_end j_start j_end a b apart i_len j_len =

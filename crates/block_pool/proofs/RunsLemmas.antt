@@ -7,6 +7,7 @@ use Rattle.block_pool.specs.Opened.{classes_from, zeros_of}
 use Rattle.block_pool.specs.Cut.{total, cut}
 use Rattle.block_pool.specs.Runs.{widths_of}
 use Rattle.block_pool.proofs.CutLemmas.{total_within}
+use Rattle.block_pool.proofs.OpenedLemmas.{map-replicate}
 
 -- equal widths
 pub total-replicate : (n width : ℕ) → total (replicate n width) ≡ n * width
@@ -65,11 +66,6 @@ widths_of-push [] run = append-nil (replicate run.count run.width)
 widths_of-push (first ∷ runs) run =
     ap (λ r. replicate first.count first.width ++ r) (widths_of-push runs run) ∙ sym (append_assoc (replicate first.count first.width) (widths_of runs) (replicate run.count run.width))
 
--- a run of one class has its width
-pub map-replicate : (f : ℕ → ℕ) (n x : ℕ) → map f (replicate n x) ≡ replicate n (f x)
-map-replicate f zero x = refl
-map-replicate f (suc n) x = ap (λ r. f x ∷ r) (map-replicate f n x)
-
 -- zeros at first
 zeros-cut : (widths : List ℕ) → cut widths (replicate (total widths) 0) ≡ map (λ width. replicate width 0) widths
 zeros-cut [] = refl
@@ -101,6 +97,7 @@ module _ (runs : List Run) (at slot left start : ℕ) (d : Run) (low : at < leng
   abbrev rest : List Run
   rest = drop (at + 1) runs
 
+  -- are all that is left
   here : drop at runs ≡ run ∷ rest
   here = drop_more runs at d low
 
@@ -124,12 +121,15 @@ module _ (runs : List Run) (at slot left start : ℕ) (d : Run) (low : at < leng
   pub next_within : run.count ≤ left → left - run.count < length (widths_of rest)
   next_within high = omega (arith, rw here at within, length-widths_of run rest)
 
+  -- so many words stand before it still
   pub next_before : run.count ≤ left → start + run.count * run.width + total (take (left - run.count) (widths_of rest)) ≡ total (take slot (widths_of runs))
   next_before high = omega (arith, rw here at before, start_past run rest left high)
 
+  -- it is as wide
   pub next_width : run.count ≤ left → get_or (widths_of rest) (left - run.count) 0 ≡ get_or (widths_of runs) slot 0
   next_width high = sym (width_past run rest left high) ∙ rw here at width
 
+  -- all words are as many
   pub next_all : start + run.count * run.width + total (widths_of rest) ≡ total (widths_of runs)
   next_all = omega (arith, rw here at all, total-widths_of run rest)
 

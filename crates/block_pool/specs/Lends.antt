@@ -5,7 +5,7 @@ use Rattle.block_pool.specs.Memory.{Memory}
 use Rattle.block_pool.specs.Cut.{written_back}
 use Rattle.block_pool.specs.contracts.pool.Pool.{the_row}
 
--- the pool with other words in a slot: with as many as it has this is `with_words` (`refilled_is`)
+-- the pool after the words of a slot were lent and are these now: as many as the slot has are its new words
 abbrev pub refilled : Memory → ℕ → List ℕ → Memory
 refilled p slot ws = record p { words = written_back p.words slot ws }
 

@@ -17,11 +17,7 @@ pub(crate) struct Run {
 }
 
 // A run for each class.
-pub(crate) fn runs_of(
-    alloc: Global,
-    counts: &[u32],
-    widths: &[u32],
-) -> Result<Vec<Run>, AllocError>
+pub(crate) fn runs_of(alloc: Global, counts: &[u32], widths: &[u32]) -> Result<Vec<Run>, AllocError>
     requires { length counts.now ≤ 17 }
     ensures { IfOk result (λ runs. widths_of runs.items ≡ map (slice_index widths.now) (classes_from 0 counts.now)) }
 {

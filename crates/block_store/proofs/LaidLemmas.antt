@@ -129,11 +129,12 @@ end_last : (start : ℕ) (sizes : List ℕ) → start ≤ end_from start sizes
 end_last start [] = omega arith
 end_last start (size ∷ sizes) = omega (arith, end_last (start + size) sizes)
 
--- where the blocks end, once all sizes are met
+-- each block ends as the sizes say
 pub record Ended (sizes known : List ℕ) (end : ℕ) : Type 0 where
   pub ends : known ≡ ends_from 0 sizes
   pub last : end ≡ end_from 0 sizes
 
+-- they end as their sizes say
 pub all_ended : (sizes ends : List ℕ) (end met : ℕ) → ends ++ ends_from end (drop met sizes) ≡ ends_from 0 sizes → end_from end (drop met sizes) ≡ end_from 0 sizes → length sizes ≤ met → Ended sizes ends end
 all_ended sizes ends end met ended last all =
     let none : drop met sizes ≡ [] = drop_all met sizes all in

@@ -9,12 +9,15 @@ use Rattle.std.proofs.lemmas.Cmp.{nat_cmp_total}
 use Rattle.block_store.specs.Store.{HasBelow}
 use Rattle.block_store.specs.Memory.{numbered, blocks_of, sizes_of}
 
+-- a number is found by itself
 is_number : (x y : ℕ) → x ≡ y → eq_by_cmp nat_cmp x y ≡ true
 is_number x y same = grind (arith, nat_tests)
 
+-- and by no lower one
 is_other : (x y : ℕ) → y < x → eq_by_cmp nat_cmp x y ≡ false
 is_other x y above = grind (arith, nat_tests)
 
+-- no number is two
 apart : (x y z : ℕ) → y < z → eq_by_cmp nat_cmp x y ≡ true → eq_by_cmp nat_cmp x z ≡ true → ⊥
 apart x y z above first second = grind (arith, nat_tests)
 

@@ -1,5 +1,5 @@
-use Rattle.std.proofs.Common.{rules, ◌≡◌, ◌∙◌, ap, replicate, refl}
-use Rattle.block_pool.specs.Cut.{total, cut}
+use Rattle.std.proofs.Common.{rules, ◌≡◌, replicate}
+use Rattle.block_pool.specs.Cut.{total}
 use Rattle.block_pool.specs.Runs.{widths_of}
 use Rattle.block_pool.proofs.RunsLemmas.{zeros_at_first}
 use Rattle.block_pool.proofs.rows.zero_rows.Goals as goal

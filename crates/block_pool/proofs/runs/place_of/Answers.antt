@@ -1,4 +1,4 @@
-use Rattle.std.proofs.Common.{rules, arith}
+use Rattle.std.proofs.Common.{arith}
 use Rattle.block_pool.proofs.RunsLemmas.{found_start, found_end, found_within, run_within, next_within, next_before, next_width, next_all}
 use Rattle.block_pool.proofs.runs.place_of.Goals as goal
 

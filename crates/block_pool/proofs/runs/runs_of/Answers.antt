@@ -1,6 +1,4 @@
-use Rattle.std.proofs.Common.{length, map, drop, slice_index, refl, ◌++◌, ◌≡◌, ◌+◌}
-use Rattle.block_pool.specs.Opened.{classes_from}
-use Rattle.block_pool.specs.Runs.{widths_of}
+use Rattle.std.proofs.Common.{slice_index, refl}
 use Rattle.block_pool.proofs.RunsLemmas.{run_added}
 use Rattle.block_pool.proofs.runs.runs_of.Goals as goal
 

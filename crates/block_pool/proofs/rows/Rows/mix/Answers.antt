@@ -1,4 +1,4 @@
-use Rattle.std.proofs.Common.{◌≡◌, ◌+◌, ◌≤◌, ◌∙◌, ap, refl, take, get_or, length, arith}
+use Rattle.std.proofs.Common.{◌+◌, ◌∙◌, ap, refl, take, get_or, arith}
 use Rattle.block_pool.specs.Cut.{total}
 use Rattle.block_pool.specs.Runs.{widths_of}
 use Rattle.block_pool.proofs.RowPlaces.{row_at, row_mixed, rows_apart}

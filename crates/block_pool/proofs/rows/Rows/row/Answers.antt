@@ -1,7 +1,7 @@
-use Rattle.std.proofs.Common.{rules, ◌≡◌, ◌+◌, ◌≤◌, ◌∙◌, ap, refl, take, get_or, length, slice_range, arith}
+use Rattle.std.proofs.Common.{rules, ◌+◌, ◌≤◌, ◌∙◌, ap, refl, take, get_or, length, slice_range, arith}
 use Rattle.block_pool.specs.Cut.{total}
 use Rattle.block_pool.specs.Runs.{widths_of}
-use Rattle.block_pool.proofs.RowPlaces.{RowAt, row_at}
+use Rattle.block_pool.proofs.RowPlaces.{row_at}
 use Rattle.block_pool.proofs.rows.Rows.row.Goals as goal
 
 pub place_of-requires-clause-within : goal.place_of-requires-clause-within
