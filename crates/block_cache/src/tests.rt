@@ -36,12 +36,23 @@ fn a_cache_keeps_the_order_of_use(rt: HostRuntime) {
 
 #[test]
 fn the_last_used_is_evicted_last(rt: HostRuntime) {
+    let mut cache = Cache::new(2);
+    fetch(&rt, &mut cache, Distributed, 5);
+    fetch(&rt, &mut cache, Distributed, 7);
+    assert!(rt; cache.evict_except(None, None) == Some((Distributed, 5)));
+    assert!(rt; cache.evict_except(None, None) == Some((Distributed, 7)));
+}
+
+#[test]
+fn a_use_moves_a_block_to_the_front(rt: HostRuntime) {
     let mut cache = Cache::new(3);
     fetch(&rt, &mut cache, Distributed, 5);
     fetch(&rt, &mut cache, Served, 5);
     fetch(&rt, &mut cache, Distributed, 7);
+    assert!(rt; cache.find(Distributed, 5) == Found::Cached);
+    cache.touch(Distributed, 5);
     cache.drop_class(Served);
     assert!(rt; cache.find(Served, 5) == Found::Absent);
-    assert!(rt; cache.evict_except(None, None) == Some((Distributed, 5)));
     assert!(rt; cache.evict_except(None, None) == Some((Distributed, 7)));
+    assert!(rt; cache.evict_except(None, None) == Some((Distributed, 5)));
 }

@@ -1,11 +1,11 @@
 -- How many slots are free, and how wide they are, after one has changed.
-use Rattle.std.proofs.Common.{◌≡◌, inl, inr, ℕ, ◌+◌, ◌<◌, Bool, true, false, List, length, refl, arith, length-set}
+use Rattle.std.proofs.Common.{◌≡◌, inl, inr, ℕ, ◌+◌, ◌<◌, ◌≤◌, Bool, true, false, List, length, refl, arith, length-set}
 use Rattle.std.specs.Prelude.{◌&&◌}
 use Rattle.std.proofs.lemmas.Bool.{cases_eq, cases_Bool}
 use Rattle.block_pool.specs.declared.state.State.{State}
 use Rattle.block_pool.specs.declared.state.State.TheVariants.{Free}
 use Rattle.block_pool.specs.Memory.{Memory, words_at, free_in, group_of, names, one_if, is_free}
-use Rattle.block_pool.specs.Changes.{IsMemory, Changes, Stands, HasWidth}
+use Rattle.block_pool.specs.Changes.{IsMemory, Changes, Stands, HasWidth, AreWide}
 use Rattle.block_pool.proofs.FreeSlots.{free_slots-set}
 use Rattle.block_pool.proofs.OneChange.{words_same, words_other}
 
@@ -35,6 +35,10 @@ width_after {p} {p1} {t} {s0} {s1} {w} ch st k width h slot within named =
       | inl e ↦ rw (e, words_same ch st, ch.width, ← e) was
       | inr ne ↦ rw (words_other ch slot ne) was
     ]
+
+-- a class that is so wide is wide enough for less
+pub wide_enough : (p : Memory) (k width len : ℕ) → HasWidth p k width → len ≤ width → AreWide p k len
+wide_enough p k width len h fits slot within named = omega (arith, fits, h slot within named)
 
 module _ {p p1 : Memory} {t : ℕ} {s0 s1 : State} {w : List ℕ} (ch : Changes p p1 t s1 w) (sound : IsMemory p) (st : Stands p s0 t) (k : ℕ) where
   -- a slot was given back

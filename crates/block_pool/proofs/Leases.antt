@@ -10,7 +10,7 @@ use Rattle.block_pool.specs.declared.state.State.{State}
 use Rattle.block_pool.specs.Memory.{Memory, words_at, state_at, names}
 use Rattle.block_pool.specs.Changes.{Changes, Stands}
 use Rattle.block_pool.specs.Standing.{Holds, Keeps, Named, NoShared, lease_at, contents}
-use Rattle.block_pool.proofs.RowsLemmas.{set_present}
+use Rattle.block_pool.proofs.CutLemmas.{set_present}
 use Rattle.block_pool.proofs.OneChange.{stands_other, stands_at, words_other, words_same}
 
 -- two readings of a list of leases that agree at each lease

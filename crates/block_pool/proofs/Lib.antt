@@ -1,5 +1,8 @@
 pub mod MixedLemmas
-pub mod RowsLemmas
+pub mod CutLemmas
+pub mod RunsLemmas
+pub mod MixedRows
+pub mod RowPlaces
 pub mod FreeSlots
 pub mod OccupiedLemmas
 pub mod Members
@@ -13,4 +16,5 @@ pub mod Frames
 pub mod Counting
 pub mod Closing
 pub mod LeaseLists
+pub mod Beside
 pub mod Laws

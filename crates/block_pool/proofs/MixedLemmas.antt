@@ -1,5 +1,5 @@
 -- Words mixed into others, one more at a time.
-use Rattle.std.proofs.Common.{◌≡◌, ℕ, zero, suc, ◌+◌, ◌<◌, ◌≤◌, List, [], ◌∷◌, length, get_or, set, take, refl, ap, arith, add-one}
+use Rattle.std.proofs.Common.{◌≡◌, ℕ, zero, suc, ◌+◌, ◌<◌, ◌≤◌, List, [], ◌∷◌, ◌++◌, length, get_or, set, take, refl, ap, arith, add-one}
 use Rattle.block_pool.specs.declared.how.How.{How}
 use Rattle.block_pool.specs.declared.how.How.TheVariants.{Set}
 use Rattle.block_pool.specs.Memory.{with_front}
@@ -33,12 +33,20 @@ module _ (how : How) where
       → set (mixed how n xs ys) n (mixed_word how (get_or (mixed how n xs ys) n 0) (get_or ys n 0)) ≡ mixed how (n + 1) xs ys
   mixed_more n xs ys h k = rw (get_or-mixed n xs ys 0, add-one) (more n xs ys h k)
 
-  -- the front of a list meets another list
-  pub mixed-take : (n : ℕ) (xs ys : List ℕ) → n ≤ length ys → mixed how (length (take n ys)) xs (take n ys) ≡ mixed how n xs ys
-  mixed-take zero xs ys h = refl
-  mixed-take (suc n) xs [] h = absurd (omega arith)
-  mixed-take (suc n) [] (y ∷ ys) h = refl
-  mixed-take (suc n) (x ∷ xs) (y ∷ ys) h = ap (λ r. mixed_word how x y ∷ r) (mixed-take n xs ys (omega arith))
+  -- words behind the first ones don't count
+  pub mixed_front : (n m : ℕ) (xs ys : List ℕ) → n ≤ m → mixed how n xs (take m ys) ≡ mixed how n xs ys
+  mixed_front zero m xs ys h = refl
+  mixed_front (suc n) zero xs ys h = absurd (omega arith)
+  mixed_front (suc n) (suc m) [] ys h = refl
+  mixed_front (suc n) (suc m) (x ∷ xs) [] h = refl
+  mixed_front (suc n) (suc m) (x ∷ xs) (y ∷ ys) h = ap (λ r. mixed_word how x y ∷ r) (mixed_front n m xs ys (omega arith))
+
+  -- words behind those that are met stay
+  pub mixed-append : (n : ℕ) (xs zs ys : List ℕ) → n ≤ length xs → mixed how n (xs ++ zs) ys ≡ mixed how n xs ys ++ zs
+  mixed-append zero xs zs ys h = refl
+  mixed-append (suc n) [] zs ys h = absurd (omega arith)
+  mixed-append (suc n) (x ∷ xs) zs [] h = refl
+  mixed-append (suc n) (x ∷ xs) zs (y ∷ ys) h = ap (λ r. mixed_word how x y ∷ r) (mixed-append n xs zs ys (omega arith))
 
   -- one turn of a loop that mixes in place
   pub mixed_step : (n : ℕ) (now old from : List ℕ) → now ≡ mixed how n old from → n < length old → n < length from

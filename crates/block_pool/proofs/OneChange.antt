@@ -1,12 +1,12 @@
 -- One slot of a pool changes.
-use Rattle.std.proofs.Common.{◌≡◌, ◌≢◌, ℕ, List, [], length, set, refl, ap, sym, ◌∙◌, length-set}
+use Rattle.std.proofs.Common.{◌≡◌, ◌≢◌, ℕ, List, [], ◌<◌, length, set, refl, ap, sym, ◌∙◌, length-set}
 use Rattle.std.proofs.lemmas.List.{get_or-set_same, get_or-set_other, set-set, set_comm, length-replicate}
 use Rattle.block_pool.specs.declared.state.State.{State}
 use Rattle.block_pool.specs.declared.state.State.TheVariants.{Free, Lift}
-use Rattle.block_pool.specs.Memory.{Memory, Apart, words_at, state_at}
+use Rattle.block_pool.specs.Memory.{Memory, Apart, words_at, state_at, with_words}
 use Rattle.block_pool.specs.Changes.{Changes, Stands, Lifts, StandsLifted}
 use Rattle.block_pool.specs.Lends.{refilled}
-use Rattle.block_pool.proofs.RowsLemmas.{set_present, refill-same}
+use Rattle.block_pool.proofs.CutLemmas.{set_present, length-written_back, written_back_is}
 
 -- what stood before, after a change of one slot
 module _ {p p1 : Memory} {t : ℕ} {s1 : State} {w : List ℕ} (ch : Changes p p1 t s1 w) where
@@ -46,11 +46,19 @@ changes_twice {p} {p1} {p2} {t} {s0} {s1} {s2} {w} {v} st a b = record {
   most = b.most ∙ a.most;
 }
 
--- a loan of a slot's words
+-- the words of a slot were lent, and as many are there now
+pub refilled_is : (p : Memory) (t : ℕ) (ws : List ℕ) → t < length p.words → length ws ≡ length (words_at p.words t) → refilled p t ws ≡ with_words p t ws
+refilled_is p t ws within len = ap (λ (words : List (List ℕ)). record p { words = words }) (written_back_is p.words t ws within len)
+
+-- whatever was lent, all slots stand as before
+pub refilled_stands : (p : Memory) (t : ℕ) (ws : List ℕ) (s : State) (x : ℕ) → Stands p s x → Stands (refilled p t ws) s x
+refilled_stands p t ws s x st = record { state = st.state; within = rw (length-written_back p.words t ws) st.within; listed = st.listed }
+
+-- so only that slot has changed
 pub refilled_changes : (p : Memory) (t : ℕ) (s : State) (ws : List ℕ) → Stands p s t → length ws ≡ length (words_at p.words t) → Changes p (refilled p t ws) t s ws
 refilled_changes p t s ws st len = record {
   states = sym (set_present p.states t _ s st.state);
-  words = ap (λ r. set p.words t r) (refill-same (words_at p.words t) ws len);
+  words = written_back_is p.words t ws st.within len;
   width = len;
   classes = refl;
   groups = refl;

@@ -9,7 +9,7 @@ use Rattle.block_pool.specs.Opened.{opened, opened_classes, started, classes_fro
 use Rattle.block_pool.proofs.Members.{free_slots-replicate, members-replicate_same, members-classes_from}
 
 -- a run of equal elements
-map-replicate : {A B : Type 0} (f : A → B) (n : ℕ) (x : A) → map f (replicate n x) ≡ replicate n (f x)
+pub map-replicate : {A B : Type 0} (f : A → B) (n : ℕ) (x : A) → map f (replicate n x) ≡ replicate n (f x)
 map-replicate f zero x = refl
 map-replicate f (suc n) x = ap (λ r. f x ∷ r) (map-replicate f n x)
 

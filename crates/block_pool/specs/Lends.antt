@@ -1,13 +1,13 @@
 -- What a pool ends as, once the words of a slot are given back.
-use Rattle.std.specs.Prelude.{ℕ, List, length}
-use Rattle.std.specs.List.{refill}
+use Rattle.std.specs.Prelude.{ℕ, List}
 use Rattle.std.specs.Borrow.{Lends, MutBor, Fml, Array, u64}
-use Rattle.block_pool.specs.Memory.{Memory, with_words, words_at}
+use Rattle.block_pool.specs.Memory.{Memory}
+use Rattle.block_pool.specs.Cut.{written_back}
 use Rattle.block_pool.specs.contracts.pool.Pool.{the_row}
 
--- the pool with other words in a slot, which keeps its width
+-- the pool after the words of a slot were lent and are these now: as many as the slot has are its new words
 abbrev pub refilled : Memory → ℕ → List ℕ → Memory
-refilled p slot ws = with_words p slot (refill (length (words_at p.words slot)) (words_at p.words slot) ws)
+refilled p slot ws = record p { words = written_back p.words slot ws }
 
 -- the words of a slot are lent
 abbrev pub lends_slot : MutBor Memory → ℕ → MutBor (List ℕ) → Fml

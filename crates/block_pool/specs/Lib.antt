@@ -3,10 +3,11 @@ pub mod Changes
 pub mod Standing
 pub mod Mixed
 pub mod Opened
-pub mod Lends
-pub mod LendsLifted
 pub mod Occupied
 pub mod Laid
-pub mod Rows
+pub mod Cut
+pub mod Runs
+pub mod Lends
+pub mod LendsLifted
 pub mod LendsRow
 pub mod Sound

@@ -9,6 +9,7 @@ mod mix;
 mod out_of_memory;
 mod pool;
 mod rows;
+mod runs;
 mod slots;
 mod state;
 

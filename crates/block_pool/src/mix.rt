@@ -1,14 +1,31 @@
 //! Words that meet other words, on plain slices.
 
-ghost use Rattle.std.specs.Prelude.{◌≡◌, ◌≤◌, ◌<◌, length};
+ghost use Rattle.std.specs.Prelude.{◌≡◌, ◌+◌, ◌≤◌, ◌<◌, ◌++◌, length, take, drop};
 ghost use Rattle.block_pool.specs.Memory.{with_front};
 ghost use Rattle.block_pool.specs.Mixed.{mixed};
 
 use crate::how::How;
 
+// Words meet others of the same list, from one place on and from another.
+pub(crate) fn mix_beside(words: &mut [u64], from: usize, to: usize, len: usize, how: How)
+    requires from { from + len ≤ length words.old }
+    requires to { to + len ≤ length words.old }
+    requires before { from < to → from + len ≤ to }
+    requires behind { to ≤ from → to + len ≤ from }
+    ensures { words.new ≡ take to words.old ++ mixed how len (drop to words.old) (drop from words.old) }
+{
+    if from < to {
+        let (front, back) = words.split_at_mut(to);
+        mix(back, &front[from..from + len], how);
+    } else {
+        let (front, back) = words.split_at_mut(from);
+        mix(&mut front[to..], &back[..len], how);
+    }
+}
+
 // Words meet the front of others.
 #[tactic(auto, using(crate::proofs::Laws::all))]
-pub(crate) fn mix(to: &mut [u64], from: &[u64], how: How)
+fn mix(to: &mut [u64], from: &[u64], how: How)
     requires { length from.now ≤ length to.old }
     ensures { to.new ≡ mixed how (length from.now) to.old from.now }
 {

@@ -1,9 +1,9 @@
 //! The pool: slots of words that leases name.
 #![tactic(auto, using(crate::proofs::Laws::all))]
 
-ghost use Rattle.std.specs.Prelude.{◌≡◌, ◌<◌, false};
+ghost use Rattle.std.specs.Prelude.{◌≡◌, ◌<◌, ℕ, List, false, length};
 ghost use Rattle.std.specs.Borrow.{sem};
-ghost use Rattle.block_pool.specs.Memory.{free_in, group_of, is_free, words_at, zeros_at};
+ghost use Rattle.block_pool.specs.Memory.{free_in, group_of, is_free, words_at, with_words, zeros_at};
 ghost use Rattle.block_pool.specs.Changes.{Stands, StandsLifted, Changes, Writes, Takes, Lifts};
 
 use crate::lease::Owned;
@@ -42,7 +42,7 @@ impl Model for Pool {
 }
 
 impl Pool {
-    ghost use Rattle.block_pool.specs.Lends.{lends_slot};
+    ghost use Rattle.block_pool.specs.Lends.{lends_slot, refilled};
 
     /// How many slots that class 16 names are free.
     pub fn free(&self) -> u32
@@ -120,6 +120,9 @@ impl Pool {
         requires { Stands self.old State.Own lease.now }
         ensures* writes_back { sem 𝓛 (lends_slot self.entry lease.now result) }
         ensures value { result.now ≡ words_at self.old.words lease.now }
+
+        // As many words as the slot has are its new ones, and no other slot changes.
+        ensures same { (ws : List ℕ) → length ws ≡ length result.now → refilled self.old lease.now ws ≡ with_words self.old lease.now ws }
     {
         self.rows.row_mut(lease.slot)
     }

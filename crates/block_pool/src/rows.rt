@@ -1,59 +1,45 @@
 //! The words of the slots, all taken at the opening.
 #![tactic(auto, using(crate::proofs::Laws::all))]
 
-ghost use Rattle.std.specs.Prelude.{◌≡◌, ◌≢◌, ◌+◌, ◌≤◌, ◌<◌, ◌++◌, ℕ, [], ◌∷◌, List, length, replicate, take, slice_index, slice_set, IfOk, OnOk};
+ghost use Rattle.std.specs.Prelude.{◌≡◌, ◌≢◌, ◌≤◌, ◌<◌, length, replicate, take, slice_set, IfOk};
 ghost use Rattle.std.specs.Borrow.{sem};
 ghost use Rattle.block_pool.specs.Memory.{words_at, with_front};
-ghost use Rattle.block_pool.specs.Opened.{zeros_of};
+ghost use Rattle.block_pool.specs.Opened.{classes_from, zeros_of};
 ghost use Rattle.block_pool.specs.Mixed.{mixed};
 
 use crate::how::How;
-use crate::mix::{mix, write_front};
+use crate::mix::{mix_beside, write_front};
+use crate::runs::{Run, count_words, place_of, runs_of};
 use std::alloc::{AllocError, Global};
 use std::marker::Model;
-use std::mem::swap;
 
-/// One row of words for each slot.
+/// The words of all slots, one slot after another.
 #[derive(Drop)]
 pub(crate) struct Rows {
-    rows: Vec<Vec<u64>>,
-    // Holds a row's place while another row is read.
-    spare: Vec<u64>,
+    runs: Vec<Run>,
+    words: Vec<u64>,
 }
 
 impl Model for Rows {
-    ghost use Rattle.std.specs.Prelude.{ℕ, List};
-    ghost use Rattle.block_pool.specs.Rows.{row_words};
+    ghost use Rattle.std.specs.Prelude.{◌≡◌, ℕ, List, length};
+    ghost use Rattle.block_pool.specs.Cut.{cut, total};
+    ghost use Rattle.block_pool.specs.Runs.{widths_of};
 
     ghost Value = { List (List ℕ) };
 
-    ghost view = { λ r. row_words r.rows.items };
+    ghost view = { λ r. cut (widths_of r.runs.items) r.words.items };
+
+    ghost invariant = { λ r. length r.words.items ≡ total (widths_of r.runs.items) };
 }
 
 impl Rows {
     ghost use Rattle.block_pool.specs.LendsRow.{lends_row};
 
-    pub(crate) fn new(alloc: Global) -> Rows
-        ensures { result ≡ [] }
-    {
-        Rows {
-            rows: Vec::new(alloc),
-            spare: Vec::new(alloc),
-        }
-    }
-
-    pub(crate) fn push_zeros(&mut self, alloc: Global, width: usize) -> Result<(), AllocError>
-        ensures { OnOk result (self.new ≡ self.old ++ replicate width 0 ∷ []) }
-    {
-        self.rows.push(vec![in alloc; 0u64; width]?)?;
-        Ok(())
-    }
-
     pub(crate) fn row(&self, slot: usize) -> &[u64]
         requires { slot < length self.now }
         ensures { result.now ≡ words_at self.now slot }
     {
-        self.rows[slot].as_slice()
+        &self.words[place_of(&self.runs, slot)]
     }
 
     pub(crate) fn row_mut(&mut self, slot: usize) -> &mut [u64]
@@ -61,8 +47,8 @@ impl Rows {
         ensures* writes_back { sem 𝓛 (lends_row self.entry slot result) }
         ensures value { result.now ≡ words_at self.old slot }
     {
-        let row = &mut self.rows[slot];
-        row.as_mut_slice()
+        let place = place_of(&self.runs, slot);
+        self.words.slice_mut(place)
     }
 
     // A row is zeros.
@@ -91,9 +77,9 @@ impl Rows {
         requires to_len { len ≤ length (words_at self.old to) }
         ensures { self.new ≡ slice_set self.old to (mixed how len (words_at self.old to) (words_at self.old from)) }
     {
-        swap(&mut self.rows[to], &mut self.spare);
-        mix(self.spare.as_mut_slice(), &self.rows[from][..len], how);
-        swap(&mut self.rows[to], &mut self.spare);
+        let from = place_of(&self.runs, from).start;
+        let to = place_of(&self.runs, to).start;
+        mix_beside(self.words.as_mut_slice(), from, to, len, how);
     }
 
     // The first words of one row replace those of another.
@@ -105,26 +91,17 @@ impl Rows {
         requires to_len { len ≤ length (words_at self.old to) }
         ensures { self.new ≡ slice_set self.old to (with_front (words_at self.old to) (take len (words_at self.old from))) }
     {
-        swap(&mut self.rows[to], &mut self.spare);
-        write_front(self.spare.as_mut_slice(), &self.rows[from][..len]);
-        swap(&mut self.rows[to], &mut self.spare);
+        self.mix(from, to, len, How::Set);
     }
 }
 
 // A row of zeros for each slot, as wide as its class.
-pub(crate) fn zero_rows(alloc: Global, classes: &[u32], widths: &[u32]) -> Result<Rows, AllocError>
-    ensures { IfOk result (λ r. r ≡ zeros_of widths.now classes.now) }
+pub(crate) fn zero_rows(alloc: Global, counts: &[u32], widths: &[u32]) -> Result<Rows, AllocError>
+    requires { length counts.now ≤ 17 }
+    ensures { IfOk result (λ r. r ≡ zeros_of widths.now (classes_from 0 counts.now)) }
 {
-    let mut rows = Rows::new(alloc);
-    for class in classes {
-        rows.push_zeros(alloc, width_of(widths, *class) as usize)?;
-    }
-    Ok(rows)
-}
-
-// The width of a class; 0 where there is no such class.
-pub(crate) fn width_of(widths: &[u32], class: u32) -> u32
-    ensures { result ≡ slice_index widths.now class }
-{
-    widths.get(class as usize).copied().unwrap_or(0)
+    let runs = runs_of(alloc, counts, widths)?;
+    let count = count_words(&runs).ok_or(AllocError)?;
+    let words = vec![in alloc; 0u64; count]?;
+    Ok(Rows { runs, words })
 }

@@ -1,6 +1,6 @@
 //! Which slots are free, in a slab for each class.
 
-ghost use Rattle.std.specs.Prelude.{◌≡◌, ◌+◌, ◌<◌, ◌++◌, ◌≤◌, [], false, length, replicate, slice_index, slice_set, IfOk, OnOk};
+ghost use Rattle.std.specs.Prelude.{◌≡◌, ◌+◌, ◌<◌, ◌++◌, ◌≤◌, [], false, length, replicate, slice_index, slice_set, sum, IfOk, OnOk};
 ghost use Rattle.block_pool.specs.Memory.{state_at, is_free, free_slots};
 
 use crate::state::State;
@@ -44,7 +44,7 @@ impl Slots {
         ensures states { IfOk result (λ s. s.states ≡ replicate (length (classes_from 0 counts.now)) State.Free) }
     {
         let mut groups = Vec::with_capacity(alloc, counts.len())?;
-        let mut classes = Vec::new(alloc);
+        let mut classes = Vec::with_capacity(alloc, count_slots(counts))?;
         for at in 0..counts.len() {
             let group = new_group(alloc, classes.len(), counts[at])?;
             groups.push(group)?;
@@ -56,13 +56,6 @@ impl Slots {
             classes,
             states,
         })
-    }
-
-    // The class of each slot.
-    pub(crate) fn classes(&self) -> &[u32]
-        ensures { result.now ≡ self.now.classes }
-    {
-        self.classes.as_slice()
     }
 
     // How many slots of a class are free.
@@ -110,6 +103,14 @@ impl Slots {
     {
         self.states[slot] = state;
     }
+}
+
+// How many slots all classes have.
+fn count_slots(counts: &[u32]) -> usize
+    requires { length counts.now ≤ 17 }
+    ensures { result ≡ sum counts.now }
+{
+    counts.iter().map(|count| *count as usize).sum()
 }
 
 // An empty slab of exactly this room.

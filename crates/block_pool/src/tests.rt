@@ -1,6 +1,6 @@
 //! What only a run shows: openings with memory, and words at their places.
 
-use crate::{How, Pool, copy_front};
+use crate::{How, Pool, copy_between, copy_front};
 use std::test::Fail;
 
 mod worker;
@@ -98,21 +98,90 @@ fn a_lifted_slot_is_zeros_apart_from_the_pool(rt: HostRuntime) -> Result<(), Fai
 }
 
 #[test]
-fn a_copy_goes_into_another_pool(rt: HostRuntime) -> Result<(), Fail> {
+#[tactic(auto, using(crate::proofs::OneChange::refilled_stands))]
+fn copies_between_pools_have_the_words_asked_for(rt: HostRuntime) -> Result<(), Fail> {
     let mut one = Pool::open(rt.alloc(), 1, 3)?;
-    let mut two = Pool::open(rt.alloc(), 2, 3)?;
-    assert_eq!(rt; one.free(), 1);
-    assert_eq!(rt; two.free(), 2);
+    let mut two = Pool::open(rt.alloc(), 1, 3)?;
+    assert!(rt; [one.free(), two.free()] == [1, 1]);
     let block = one.take();
-    one.words_mut(&block).fill(6);
+    let words = one.words_mut(&block);
+    assert!(rt; words.len() == 3);
+    words.copy_from_slice(&[4, 5, 6]);
     let into = two.take();
+    assert!(rt; two.words(&into).len() == one.words(&block).len());
     let into = two.expect(into);
     copy_front(&one, &block, &mut two, &into, 2);
     let cached = two.arrive(into);
-    assert!(rt; two.cached(&cached) == [6, 6, 0].as_slice());
-    one.give(block);
+    assert!(rt; two.cached(&cached) == [4, 5, 0].as_slice());
     two.drop_cached(cached);
-    assert_eq!(rt; one.free(), 1);
-    assert_eq!(rt; two.free(), 2);
+    assert_eq!(rt; two.free(), 1);
+    let into = two.take();
+    assert!(rt; two.words(&into).len() == one.words(&block).len());
+    let into = two.expect(into);
+    copy_between(&one, &block, &mut two, &into);
+    let cached = two.arrive(into);
+    assert!(rt; two.cached(&cached) == [4, 5, 6].as_slice());
+    two.drop_cached(cached);
+    one.give(block);
+    Ok(())
+}
+
+#[test]
+#[tactic(auto, using(crate::proofs::OneChange::refilled_stands))]
+fn a_block_is_copied_within_a_pool(rt: HostRuntime) -> Result<(), Fail> {
+    let mut pool = Pool::open(rt.alloc(), 2, 3)?;
+    assert_eq!(rt; pool.free(), 2);
+    let block = pool.take();
+    let words = pool.words_mut(&block);
+    assert!(rt; words.len() == 3);
+    words.copy_from_slice(&[4, 5, 6]);
+    assert_eq!(rt; pool.free(), 1);
+    let into = pool.take();
+    assert!(rt; [pool.words(&into).len(), pool.words(&block).len()] == [3, 3]);
+    let into = pool.expect(into);
+    pool.copy_within(&block, &into);
+    let cached = pool.arrive(into);
+    assert!(rt; pool.cached(&cached) == [4, 5, 6].as_slice());
+    pool.drop_cached(cached);
+    pool.give(block);
+    Ok(())
+}
+
+#[test]
+#[tactic(auto, using(crate::proofs::OneChange::refilled_stands))]
+fn a_front_is_copied_within_a_pool(rt: HostRuntime) -> Result<(), Fail> {
+    let mut pool = Pool::open(rt.alloc(), 2, 3)?;
+    assert_eq!(rt; pool.free(), 2);
+    let block = pool.take();
+    let words = pool.words_mut(&block);
+    assert!(rt; words.len() == 3);
+    words.copy_from_slice(&[4, 5, 6]);
+    assert_eq!(rt; pool.free(), 1);
+    let into = pool.take();
+    assert!(rt; [pool.words(&into).len(), pool.words(&block).len()] == [3, 3]);
+    let into = pool.expect(into);
+    pool.copy_front_within(&block, &into, 2);
+    let cached = pool.arrive(into);
+    assert!(rt; pool.cached(&cached) == [4, 5, 0].as_slice());
+    pool.drop_cached(cached);
+    pool.give(block);
+    Ok(())
+}
+
+#[test]
+#[tactic(auto, using(crate::proofs::OneChange::refilled_stands))]
+fn copies_on_their_way_have_the_words_asked_for(rt: HostRuntime) -> Result<(), Fail> {
+    let mut pool = Pool::open(rt.alloc(), 2, 3)?;
+    assert_eq!(rt; pool.free(), 2);
+    let block = pool.take();
+    let words = pool.words_mut(&block);
+    assert!(rt; words.len() == 3);
+    words.copy_from_slice(&[4, 5, 6]);
+    assert_eq!(rt; pool.free(), 1);
+    let sent = pool.send_in(&block, 3, 2);
+    assert!(rt; pool.sending(&sent) == [4, 5, 0].as_slice());
+    pool.sent(sent);
+    pool.give(block);
+    assert_eq!(rt; pool.free(), 2);
     Ok(())
 }

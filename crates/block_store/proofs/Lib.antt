@@ -1,2 +1,3 @@
+pub mod LaidLemmas
 pub mod MemoryLemmas
 pub mod StoreLemmas

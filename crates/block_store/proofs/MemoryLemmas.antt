@@ -1,21 +1,23 @@
--- Rows by number, as the map of blocks sees them.
-use Rattle.std.proofs.Common.{◌≡◌, ℕ, zero, suc, ◌+◌, ◌<◌, Bool, true, false, cond, List, [], ◌∷◌, length, get_or, set, slice_index, Vec, Option, Some, IsSome, refl, sym, ap, ◌∙◌, subst, arith}
-use Rattle.std.proofs.lemmas.List.{length-map, map-set}
+-- Blocks by number, as the map sees them.
+use Rattle.std.proofs.Common.{◌≡◌, ℕ, zero, suc, ◌+◌, ◌<◌, Bool, true, false, cond, List, [], ◌∷◌, length, get_or, set, slice_index, Option, Some, IsSome, refl, sym, ap, ◌∙◌, subst, arith}
+use Rattle.std.proofs.lemmas.List.{length-map}
 use Rattle.std.proofs.lemmas.Bool.Decides.{nat_tests}
 use Rattle.std.specs.FinMap as finite
 use Rattle.std.specs.FinMap.{find, same_map, get-from_entries, get-insert, nat_cmp-IsAntisymmetric}
 use Rattle.std.specs.Ordering.{nat_cmp, eq_by_cmp}
 use Rattle.std.proofs.lemmas.Cmp.{nat_cmp_total}
-use Rattle.std.specs.declared.alloc.Global.{Global}
 use Rattle.block_store.specs.Store.{HasBelow}
-use Rattle.block_store.specs.Memory.{rows_of, numbered, blocks_of, sizes_of}
+use Rattle.block_store.specs.Memory.{numbered, blocks_of, sizes_of}
 
+-- a number is found by itself
 is_number : (x y : ℕ) → x ≡ y → eq_by_cmp nat_cmp x y ≡ true
 is_number x y same = grind (arith, nat_tests)
 
+-- and by no lower one
 is_other : (x y : ℕ) → y < x → eq_by_cmp nat_cmp x y ≡ false
 is_other x y above = grind (arith, nat_tests)
 
+-- no number is two
 apart : (x y z : ℕ) → y < z → eq_by_cmp nat_cmp x y ≡ true → eq_by_cmp nat_cmp x z ≡ true → ⊥
 apart x y z above first second = grind (arith, nat_tests)
 
@@ -54,73 +56,29 @@ find-numbered-set query number from (suc place) (old ∷ rows) row is within =
 within_rows : (rows : List (List ℕ)) (place : ℕ) → place < length (sizes_of rows) → place < length rows
 within_rows rows place within = simp length-map at within
 
--- there are as many lists as rows
-within_list : (list : List (Vec ℕ Global)) (place : ℕ) → place < length (sizes_of (rows_of list)) → place < length list
-within_list list place within = simp length-map at within
+-- the numbers that a block has
+pub get-blocks_of : (rows : List (List ℕ)) (place : ℕ) → place < length (sizes_of rows) → finite.get (blocks_of rows) place ≡ Some (get_or rows place [])
+get-blocks_of rows place within =
+    get-from_entries nat_cmp_total (numbered 0 rows) place ∙ find-numbered place 0 place rows [] (omega arith) (within_rows rows place within)
 
--- a row's size is its length
-size_at : (list : List (Vec ℕ Global)) (place : ℕ) (row : Vec ℕ Global) → place < length list → row ≡ get_or list place row → slice_index (sizes_of (rows_of list)) place ≡ length row.items
-size_at [] place row within is = absurd (omega arith)
-size_at (first ∷ list) zero row within is = ap (λ (v : Vec ℕ Global). length v.items) (sym is)
-size_at (first ∷ list) (suc place) row within is = size_at list place row (omega arith) is
+-- replacing a block is to insert into the map
+pub blocks_of-set : (rows : List (List ℕ)) (place : ℕ) (row : List ℕ) → place < length (sizes_of rows) → blocks_of (set rows place row) ≡ finite.insert (blocks_of rows) place row
+blocks_of-set rows place row within =
+    same_map nat_cmp_total nat_cmp-IsAntisymmetric _ _ (λ query.
+    get-from_entries nat_cmp_total (numbered 0 (set rows place row)) query
+    ∙ find-numbered-set query place 0 place rows row (omega arith) (within_rows rows place within)
+    ∙ ap (cond (eq_by_cmp nat_cmp query place) (Some row)) (sym (get-from_entries nat_cmp_total (numbered 0 rows) query))
+    ∙ sym (get-insert nat_cmp_total (blocks_of rows) place row query))
 
--- a row at its place
-row_at : (list : List (Vec ℕ Global)) (place : ℕ) (row : Vec ℕ Global) → place < length list → row ≡ get_or list place row → get_or (rows_of list) place [] ≡ row.items
-row_at [] place row within is = absurd (omega arith)
-row_at (first ∷ list) zero row within is = ap (λ (v : Vec ℕ Global). v.items) (sym is)
-row_at (first ∷ list) (suc place) row within is = row_at list place row (omega arith) is
-
--- replacing a row of the list replaces one of the rows
-rows_of-set : (list : List (Vec ℕ Global)) (place : ℕ) (row : Vec ℕ Global) → rows_of (set list place row) ≡ set (rows_of list) place row.items
-rows_of-set list place row = map-set (λ (v : Vec ℕ Global). v.items) list place row
-
--- a row of its old length leaves the sizes
-sizes_of-set : (rows : List (List ℕ)) (place : ℕ) (row : List ℕ) → place < length rows → length row ≡ slice_index (sizes_of rows) place → sizes_of (set rows place row) ≡ sizes_of rows
+-- replacing a block by one of its length leaves the sizes
+pub sizes_of-set : (rows : List (List ℕ)) (place : ℕ) (row : List ℕ) → place < length (sizes_of rows) → length row ≡ slice_index (sizes_of rows) place → sizes_of (set rows place row) ≡ sizes_of rows
 sizes_of-set [] place row within same = absurd (omega arith)
 sizes_of-set (first ∷ rows) zero row within same = ap (λ n. n ∷ sizes_of rows) same
 sizes_of-set (first ∷ rows) (suc place) row within same = ap (λ sizes. length first ∷ sizes) (sizes_of-set rows place row (omega arith) same)
 
--- the size that a block has
-pub size_of : (list : List (Vec ℕ Global)) (now : List (List ℕ)) (place : ℕ) (row : Vec ℕ Global) → rows_of list ≡ now → place < length (sizes_of now) → row ≡ get_or list place row → slice_index (sizes_of now) place ≡ length row.items
-size_of list now place row view within is =
-    let here = subst (λ (rows : List (List ℕ)). place < length (sizes_of rows)) (sym view) within in
-    ap (λ rows. slice_index (sizes_of rows) place) (sym view) ∙ size_at list place row (within_list list place here) is
-
--- the numbers that a block has
-pub get-blocks_of : (list : List (Vec ℕ Global)) (now : List (List ℕ)) (place : ℕ) (row : Vec ℕ Global) → rows_of list ≡ now → place < length (sizes_of now) → row ≡ get_or list place row → finite.get (blocks_of now) place ≡ Some row.items
-get-blocks_of list now place row view within is =
-    let here = subst (λ (rows : List (List ℕ)). place < length (sizes_of rows)) (sym view) within in
-    get-from_entries nat_cmp_total (numbered 0 now) place
-    ∙ find-numbered place 0 place now [] (omega arith) (within_rows now place within)
-    ∙ ap (λ rows. Some (get_or rows place [])) (sym view)
-    ∙ ap Some (row_at list place row (within_list list place here) is)
-
--- replacing a block is to insert into the map
-pub blocks_of-set : (list : List (Vec ℕ Global)) (now : List (List ℕ)) (place : ℕ) (row : Vec ℕ Global) (from : List ℕ) → rows_of list ≡ now → place < length (sizes_of now) → row.items ≡ from → blocks_of (rows_of (set list place row)) ≡ finite.insert (blocks_of now) place from
-blocks_of-set list now place row from view within is =
-    ap blocks_of (rows_of-set list place row)
-    ∙ ap (λ rows. blocks_of (set rows place row.items)) view
-    ∙ ap (λ items. blocks_of (set now place items)) is
-    ∙ same_map nat_cmp_total nat_cmp-IsAntisymmetric _ _ (λ query.
-    get-from_entries nat_cmp_total (numbered 0 (set now place from)) query
-    ∙ find-numbered-set query place 0 place now from (omega arith) (within_rows now place within)
-    ∙ ap (cond (eq_by_cmp nat_cmp query place) (Some from)) (sym (get-from_entries nat_cmp_total (numbered 0 now) query))
-    ∙ sym (get-insert nat_cmp_total (blocks_of now) place from query))
-
--- replacing a block by one of its length leaves the sizes
-pub sizes_after_set : (list : List (Vec ℕ Global)) (now : List (List ℕ)) (place : ℕ) (row : Vec ℕ Global) (from : List ℕ) → rows_of list ≡ now → place < length (sizes_of now) → row.items ≡ from → length from ≡ slice_index (sizes_of now) place → sizes_of (rows_of (set list place row)) ≡ sizes_of now
-sizes_after_set list now place row from view within is same =
-    ap sizes_of (rows_of-set list place row)
-    ∙ ap (λ rows. sizes_of (set rows place row.items)) view
-    ∙ ap (λ items. sizes_of (set now place items)) is
-    ∙ sizes_of-set now place from (within_rows now place within) same
-
 -- a store in memory has each of its blocks
 pub has_block : (rows : List (List ℕ)) (block : ℕ) → block < length (sizes_of rows) → IsSome (finite.get (blocks_of rows) block)
-has_block rows block within =
-    let is : finite.get (blocks_of rows) block ≡ Some (get_or rows block []) = get-from_entries nat_cmp_total (numbered 0 rows) block
-    ∙ find-numbered block 0 block rows [] (omega arith) (within_rows rows block within) in
-    subst (λ (found : Option (List ℕ)). IsSome found) (sym is) refl
+has_block rows block within = subst (λ (found : Option (List ℕ)). IsSome found) (sym (get-blocks_of rows block within)) refl
 
 -- and all below one of them
 pub has_below : (rows : List (List ℕ)) (block : ℕ) → block < length (sizes_of rows) → HasBelow block (blocks_of rows)

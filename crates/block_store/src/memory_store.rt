@@ -1,39 +1,48 @@
 //! A store in memory.
 
-ghost use Rattle.std.specs.Prelude.{◌≡◌, Some, IfOk};
-ghost use Rattle.block_store.specs.Memory.{blocks_of, sizes_of, zeros};
+ghost use Rattle.std.specs.Prelude.{◌≡◌, ◌<◌, Some, length, slice_index, IfOk};
+ghost use Rattle.block_store.specs.Memory.{blocks_of, sizes_of, zeros, begin_of};
 ghost use Rattle.sip_files.specs.Kept.{stands_alone};
 
 use crate::store::Store;
 use sip_files::{Failed, OutOfMemory};
 use std::alloc::Global;
 use std::marker::Model;
+use std::ops::Range;
 
 /// A store in memory. It tells its content, and never fails.
 #[derive(Drop)]
 pub struct MemoryStore {
-    blocks: Vec<Vec<u64>>,
+    // The numbers of all blocks, one block after another.
+    words: Vec<u64>,
+    // Where each block ends.
+    ends: Vec<u32>,
 }
 
 impl Model for MemoryStore {
-    ghost use Rattle.std.specs.Prelude.{ℕ, List};
-    ghost use Rattle.block_store.specs.Memory.{rows_of};
+    ghost use Rattle.std.specs.Prelude.{ℕ, List, length};
+    ghost use Rattle.block_store.specs.Memory.{blocks_from, InOrder};
 
     ghost Value = { List (List ℕ) };
 
-    ghost view = { λ s. rows_of s.blocks.items };
+    ghost view = { λ s. blocks_from 0 s.ends.items s.words.items };
+
+    ghost invariant = { λ s. InOrder 0 s.ends.items (length s.words.items) };
 }
 
 impl MemoryStore {
-    /// Takes a block of zeros for each size.
+    /// Takes a block of zeros for each size. With 2^32 numbers or more, too, it answers `OutOfMemory`.
     pub fn open(alloc: Global, sizes: &[u32]) -> Result<MemoryStore, OutOfMemory>
         ensures { IfOk result (λ store. store ≡ zeros sizes.now) }
     {
-        let mut blocks = Vec::with_capacity(alloc, sizes.len())?;
+        let mut ends = Vec::with_capacity(alloc, sizes.len())?;
+        let mut end = 0u32;
         for size in sizes {
-            blocks.push(vec![in alloc; 0u64; *size as usize]?)?;
+            end = end.checked_add(*size).ok_or(OutOfMemory)?;
+            ends.push(end)?;
         }
-        Ok(MemoryStore { blocks })
+        let words = vec![in alloc; 0u64; end as usize]?;
+        Ok(MemoryStore { words, ends })
     }
 }
 
@@ -47,13 +56,24 @@ impl Store for MemoryStore {
     ghost kept = { λ _. stands_alone };
 
     fn read(&mut self, block: u32, into: &mut [u64]) -> Result<(), Failed> {
-        into.copy_from_slice(self.blocks[block as usize].as_slice());
+        let place = place_of(&self.ends, block as usize);
+        into.copy_from_slice(&self.words[place]);
         Ok(())
     }
 
     fn write(&mut self, block: u32, from: &[u64]) -> Result<(), Failed> {
-        let row = &mut self.blocks[block as usize];
-        row.copy_from_slice(from);
+        let place = place_of(&self.ends, block as usize);
+        self.words[place].copy_from_slice(from);
         Ok(())
     }
+}
+
+// Where a block stands.
+fn place_of(ends: &[u32], block: usize) -> Range<usize>
+    requires { block < length ends.now }
+    ensures start { result.start ≡ begin_of ends.now block }
+    ensures end { result.end ≡ slice_index ends.now block }
+{
+    let start = if block == 0 { 0 } else { ends[block - 1] };
+    start as usize..ends[block] as usize
 }

@@ -1,4 +1,4 @@
-//! A store in memory: zeros at its opening, and a block read back as it was written.
+//! A store in memory: zeros at its opening, and a block read back as it was written, beside the others.
 
 ghost use Rattle.std.specs.Prelude.{◌≡◌, ◌<◌, length, slice_index};
 ghost use Rattle.block_store.specs.Store.{WhereTold, HasBelow};
@@ -23,13 +23,15 @@ fn copy<S: Store>(store: &mut S, block: u32, from: &[u64], into: &mut [u64]) -> 
 #[test]
 #[tactic(auto, using(crate::proofs::MemoryLemmas::has_block, crate::proofs::MemoryLemmas::has_below))]
 fn a_block_is_read_as_it_was_written(rt: HostRuntime) -> Result<(), Fail> {
-    let mut store = MemoryStore::open(rt.alloc(), [1, 3, 2].as_slice())?;
-    let mut words = [0u64; 3];
+    let mut store = MemoryStore::open(rt.alloc(), [1, 3, 0, 2].as_slice())?;
+    let mut words = [5u64; 3];
+    assert!(rt; store.read(1, &mut words).is_ok());
+    assert_eq!(rt; words, [0, 0, 0]);
     assert!(rt; copy(&mut store, 1, &[7, 8, 9], &mut words).is_ok());
     assert_eq!(rt; words, [7, 8, 9]);
     assert!(rt; store.read(0, &mut words[..1]).is_ok());
     assert_eq!(rt; words, [0, 8, 9]);
-    assert!(rt; store.read(2, &mut words[1..]).is_ok());
+    assert!(rt; store.read(3, &mut words[1..]).is_ok());
     assert_eq!(rt; words, [0, 0, 0]);
     Ok(())
 }

@@ -7,7 +7,8 @@ ghost use Rattle.block_pool.specs.Opened.{opened, opened_classes, started, wides
 
 use crate::out_of_memory::OutOfMemory;
 use crate::pool::Pool;
-use crate::rows::{width_of, zero_rows};
+use crate::rows::zero_rows;
+use crate::runs::width_of;
 use crate::slots::Slots;
 use std::alloc::{AllocError, Global};
 
@@ -70,7 +71,7 @@ fn new_pool(
     ensures { IfOk result (λ p. p ≡ started counts.now widths.now groups.now widest) }
 {
     let slots = Slots::open(alloc, counts)?;
-    let rows = zero_rows(alloc, slots.classes(), widths)?;
+    let rows = zero_rows(alloc, counts, widths)?;
     let most = width_of(widths, widest) as usize;
     let buffer = Some(vec![in alloc; 0u64; most]?);
     Ok(Pool {

@@ -2,7 +2,7 @@ use Rattle.std.proofs.Common.{◌≡◌, ◌≤◌, ℕ, List, length, take, ap,
 use Rattle.std.proofs.lemmas.List.{length-replicate, length-take-le}
 use Rattle.block_pool.specs.contracts.pool.Pool.{the_view}
 use Rattle.block_pool.specs.Memory.{Memory, words_at, with_front, zeros_at}
-use Rattle.block_pool.proofs.RowsLemmas.{length-with_front}
+use Rattle.block_pool.proofs.CutLemmas.{length-with_front}
 use Rattle.block_pool.proofs.Taking.{taken_then_copied, taken_then_written}
 use Rattle.block_pool.proofs.pool.Pool.send_in.Goals as goal
 

@@ -1,16 +1,55 @@
-use Rattle.std.proofs.Common.{sym, ap, ◌∙◌, Some}
-use Rattle.block_store.proofs.MemoryLemmas.{size_of, blocks_of-set, sizes_after_set}
+use Rattle.std.proofs.Common.{rules, ◌≤◌, ◌-◌, length, drop, slice_index, Some, refl, ◌∙◌, ap, arith, length-take, length-drop}
+use Rattle.block_store.specs.Memory.{begin_of, blocks_of, sizes_of}
+use Rattle.block_store.proofs.LaidLemmas.{InPlace, in_place, stored}
+use Rattle.block_store.proofs.MemoryLemmas.{blocks_of-set, sizes_of-set}
 use Rattle.block_store.proofs.memory_store.MemoryStoreStore.write.Goals as goal
+
+pub place_of-place-requires : goal.place_of-place-requires
+place_of-place-requires c =
+    rw c.deref.ensures.value (in_place c.self.inside.ends.items c.self.inside.words.items c.args.self.now c.args.block _ _ c.self.view_is c.self.invariant c.requires.block refl refl).known
+
+-- where the block stands
+place : (c : goal.After-deref_mut) → InPlace c.self.inside.ends.items c.self.inside.words.items c.args.self.now c.args.block c.place_of-place.result.start c.place_of-place.result.end
+place c =
+    in_place c.self.inside.ends.items c.self.inside.words.items c.args.self.now c.args.block c.place_of-place.result.start c.place_of-place.result.end c.self.view_is c.self.invariant c.requires.block
+    (c.place_of-place.ensures.start ∙ ap (λ ends. begin_of ends c.args.block) c.deref.ensures.value) (c.place_of-place.ensures.end ∙ ap (λ ends. slice_index ends c.args.block) c.deref.ensures.value)
+
+pub offset_bounds-deref_mut-place : goal.offset_bounds-deref_mut-place
+offset_bounds-deref_mut-place c =
+    let at = place c in
+    let low : c.place_of-place.result.start ≤ length c.deref_mut.result.now = rw c.deref_mut.ensures.value (omega (arith, at.first, at.within)) in
+    search rules
+
+pub slice_bounds-copy_from_slice-count : goal.slice_bounds-copy_from_slice-count
+slice_bounds-copy_from_slice-count c = (place c).first
+
+pub slice_bounds-copy_from_slice-start : goal.slice_bounds-copy_from_slice-start
+slice_bounds-copy_from_slice-start c =
+    let first : c.place_of-place.result.start ≤ c.place_of-place.result.end = (place c).first in
+    search rules
+
+pub slice_bounds-copy_from_slice-end : goal.slice_bounds-copy_from_slice-end
+slice_bounds-copy_from_slice-end c =
+    let within : c.place_of-place.result.end ≤ length c.deref_mut.result.now = rw c.deref_mut.ensures.value (place c).within in
+    search rules
 
 pub copy_from_slice-requires : goal.copy_from_slice-requires
 copy_from_slice-requires c =
-    c.index_mut-row.result.now.ok.0
-    ∙ sym (c.requires.len ∙ size_of c.self.inside.blocks.items c.args.self.now c.args.block c.index_mut-row.result.now c.self.view_is c.requires.block c.index_mut-row.ensures.value)
+    let at = in_place c.self.inside.ends.items c.self.inside.words.items c.args.self.now c.args.block c.place_of-place.result.start c.place_of-place.result.end c.self.view_is c.self.invariant c.requires.block
+    (c.place_of-place.ensures.start ∙ ap (λ ends. begin_of ends c.args.block) c.deref.ensures.value) (c.place_of-place.ensures.end ∙ ap (λ ends. slice_index ends c.args.block) c.deref.ensures.value) in
+    let within : c.place_of-place.result.end ≤ length c.deref_mut.result.now = rw c.deref_mut.ensures.value at.within in
+    omega (arith, c.requires.len, at.size, at.first, within, length-take (c.place_of-place.result.end - c.place_of-place.result.start) (drop c.place_of-place.result.start c.deref_mut.result.now), length-drop c.place_of-place.result.start c.deref_mut.result.now)
 
 pub returns-clause-ok : goal.returns-clause-ok
 returns-clause-ok c =
-    ap Some (blocks_of-set c.self.inside.blocks.items c.args.self.now c.args.block c.copy_from_slice.new.self c.args.from.now c.self.view_is c.requires.block c.copy_from_slice.ensures.items)
+    let at = in_place c.self.inside.ends.items c.self.inside.words.items c.args.self.now c.args.block c.place_of-place.result.start c.place_of-place.result.end c.self.view_is c.self.invariant c.requires.block
+    (c.place_of-place.ensures.start ∙ ap (λ ends. begin_of ends c.args.block) c.deref.ensures.value) (c.place_of-place.ensures.end ∙ ap (λ ends. slice_index ends c.args.block) c.deref.ensures.value) in
+    ap (λ blocks. Some (blocks_of blocks)) (stored c.self.inside.ends.items c.self.inside.words c.deref_mut.result.now c.args.self.now c.copy_from_slice.new.self c.args.from.now c.args.block c.place_of-place.result.start c.place_of-place.result.end c.self.view_is c.self.invariant at c.deref_mut.ensures.value c.copy_from_slice.ensures.after c.requires.len)
+    ∙ ap Some (blocks_of-set c.args.self.now c.args.block c.args.from.now c.requires.block)
 
 pub returns-clause-sizes : goal.returns-clause-sizes
 returns-clause-sizes c =
-    sizes_after_set c.self.inside.blocks.items c.args.self.now c.args.block c.copy_from_slice.new.self c.args.from.now c.self.view_is c.requires.block c.copy_from_slice.ensures.items c.requires.len
+    let at = in_place c.self.inside.ends.items c.self.inside.words.items c.args.self.now c.args.block c.place_of-place.result.start c.place_of-place.result.end c.self.view_is c.self.invariant c.requires.block
+    (c.place_of-place.ensures.start ∙ ap (λ ends. begin_of ends c.args.block) c.deref.ensures.value) (c.place_of-place.ensures.end ∙ ap (λ ends. slice_index ends c.args.block) c.deref.ensures.value) in
+    ap sizes_of (stored c.self.inside.ends.items c.self.inside.words c.deref_mut.result.now c.args.self.now c.copy_from_slice.new.self c.args.from.now c.args.block c.place_of-place.result.start c.place_of-place.result.end c.self.view_is c.self.invariant at c.deref_mut.ensures.value c.copy_from_slice.ensures.after c.requires.len)
+    ∙ sizes_of-set c.args.self.now c.args.block c.args.from.now c.requires.block c.requires.len
