@@ -16,7 +16,7 @@ pub struct MemoryStore {
     // The numbers of all blocks, one block after another.
     words: Vec<u64>,
     // Where each block ends.
-    ends: Vec<u32>,
+    ends: Vec<usize>,
 }
 
 impl Model for MemoryStore {
@@ -31,17 +31,18 @@ impl Model for MemoryStore {
 }
 
 impl MemoryStore {
-    /// Takes a block of zeros for each size. With 2^32 numbers or more, too, it answers `OutOfMemory`.
+    /// Takes a block of zeros for each size.
     pub fn open(alloc: Global, sizes: &[u32]) -> Result<MemoryStore, OutOfMemory>
         ensures { IfOk result (λ store. store ≡ zeros sizes.now) }
     {
         let mut ends = Vec::with_capacity(alloc, sizes.len())?;
-        let mut end = 0u32;
+        let mut end = 0usize;
         for size in sizes {
-            end = end.checked_add(*size).ok_or(OutOfMemory)?;
+            // No memory has room for more numbers than a `usize` counts.
+            end = end.checked_add(*size as usize).ok_or(OutOfMemory)?;
             ends.push(end)?;
         }
-        let words = vec![in alloc; 0u64; end as usize]?;
+        let words = vec![in alloc; 0u64; end]?;
         Ok(MemoryStore { words, ends })
     }
 }
@@ -69,11 +70,11 @@ impl Store for MemoryStore {
 }
 
 // Where a block stands.
-fn place_of(ends: &[u32], block: usize) -> Range<usize>
+fn place_of(ends: &[usize], block: usize) -> Range<usize>
     requires { block < length ends.now }
     ensures start { result.start ≡ begin_of ends.now block }
     ensures end { result.end ≡ slice_index ends.now block }
 {
     let start = if block == 0 { 0 } else { ends[block - 1] };
-    start as usize..ends[block] as usize
+    start..ends[block]
 }
