@@ -3,8 +3,8 @@ pub mod PositionsLemmas
 pub mod StridedLemmas
 pub mod OrderLemmas
 pub mod PermutingLemmas
+pub mod PartsLemmas
 pub mod SlicingLemmas
 pub mod InsertingLemmas
-pub mod PartsLemmas
 pub mod PositionLaws
 pub mod LawsLemmas

@@ -1,14 +1,14 @@
 //! Parts of blocks put in.
 
-ghost use Rattle.std.specs.Prelude.{◌≡◌, ◌+◌, ◌*◌, ◌/◌, ◌≤◌, ◌<◌, [], ◌∷◌, length};
+ghost use Rattle.std.specs.Prelude.{◌≡◌, ◌+◌, ◌≤◌, ◌<◌, [], ◌∷◌, length};
 ghost use Rattle.kernel_permute.specs.Inserting.{inserted};
 ghost use Rattle.kernel_permute.specs.Parts.{dims_of, sizes, starts};
 ghost use Rattle.kernel_permute.specs.Positions.{product};
 ghost use Rattle.kernel_permute.specs.Slicing.{IsPart};
 
 use crate::how::How;
-use crate::part::Part;
-use crate::strided::read_row;
+use crate::part::{Part, parts_of, row_size, row_width};
+use crate::strided::read_neighbours;
 
 /// The source becomes the part of the target that begins at `at`; the rest of the target stays.
 pub fn put_in<const R: usize>(
@@ -28,18 +28,7 @@ pub fn put_in<const R: usize>(
     if from.is_empty() {
         return;
     }
-    let mut parts = [Part {
-        at: 0,
-        size: 0,
-        dim: 0,
-    }; R];
-    for k in 0..R {
-        parts[k] = Part {
-            at: at[k] as usize,
-            size: size[k] as usize,
-            dim: dims[k] as usize,
-        };
-    }
+    let parts = parts_of(at, size, dims);
     insert(from, &parts, to, how);
 }
 
@@ -52,7 +41,7 @@ fn insert_row(from: &[u64], row: &Part, to: &mut [u64], how: How)
     requires some { 0 < length from.now }
     ensures value { to.new ≡ inserted how (row.now.size ∷ []) from.now (row.now.dim ∷ []) (row.now.at ∷ []) to.old }
 {
-    read_row(from, 0, 1, &mut to[row.at..row.at + row.size], how);
+    read_neighbours(from, &mut to[row.at..row.at + row.size], how);
 }
 
 // A part that is not empty.
@@ -110,32 +99,5 @@ fn insert_rows(from: &[u64], count: usize, rest: &[Part], to: &mut [u64], how: H
             &mut to[i * width..(i + 1) * width],
             how,
         );
-    }
-}
-
-// How many numbers of the source lie in each of so many rows. Where a row has one dimension this
-// takes no division, which would cost as much as a short row.
-#[inline(always)]
-fn row_size(count: usize, rest: &[Part], numbers: usize) -> usize
-    requires numbers { numbers ≡ count * product (sizes rest.now) }
-    requires some { 0 < numbers }
-    ensures { result ≡ numbers / count }
-{
-    match rest {
-        [row] => row.size,
-        _ => numbers / count,
-    }
-}
-
-// The same of the target.
-#[inline(always)]
-fn row_width(count: usize, rest: &[Part], numbers: usize) -> usize
-    requires numbers { numbers ≡ count * product (dims_of rest.now) }
-    requires some { 0 < numbers }
-    ensures { result ≡ numbers / count }
-{
-    match rest {
-        [row] => row.dim,
-        _ => numbers / count,
     }
 }

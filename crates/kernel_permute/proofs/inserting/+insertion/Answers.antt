@@ -5,8 +5,8 @@ use borrow.Rule.Slice.PartMut.{put_mid}
 use Rattle.kernel_permute.specs.declared.part.Part.{Part}
 use Rattle.kernel_permute.specs.Parts.{starts, sizes, dims_of}
 use Rattle.kernel_permute.specs.Positions.{product}
-use Rattle.kernel_permute.proofs.SlicingLemmas.{positive_from_part}
-use Rattle.kernel_permute.proofs.InsertingLemmas.{first_split, length-inner, insert_first, insert_turn, insert_done, row_of, rows_some}
+use Rattle.kernel_permute.proofs.InsertingLemmas.{insert_first, insert_turn, insert_done}
+use Rattle.kernel_permute.proofs.PartsLemmas.{first_split, length-inner, positive_from_part, row_of, rows_some}
 use Rattle.kernel_permute.proofs.inserting.+insertion.Goals as goal
 
 pub insert_block-overflow_add-inner : goal.insert_block-overflow_add-inner
@@ -21,7 +21,7 @@ insert_block-insert_rows-requires t c =
     let none : Part = record { at = 0; size = 0; dim = 0 } in
     let known = first_split _ _ c.args.parts.now (length c.args.from.now) (length c.args.to.now) (first_rest c.args.parts.now none (omega arith)) c.requires.part c.requires.from_length c.requires.to_length c.requires.some in
     let falls : 3 * length (take (length c.args.parts.now - 1) (drop 1 c.args.parts.now)) + 3 < 3 * length c.args.parts.now + 1 = omega (arith, length-take (length c.args.parts.now - 1) (drop 1 c.args.parts.now)) in
-    (omega (arith, c.decreases), (known.part, (known.source, (rw c.row_width-width.ensures (length-inner _ _ (length c.args.from.now) c.args.to.now known), c.requires.some))))
+    (omega (arith, c.decreases), (known.part, (known.piece, (rw c.row_width-width.ensures (length-inner _ _ (length c.args.from.now) c.args.to.now known), c.requires.some))))
 
 pub insert_block-returns-in-len1-up : goal.insert_block-returns-in-len1-up
 insert_block-returns-in-len1-up t c =
