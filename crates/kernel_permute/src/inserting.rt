@@ -1,6 +1,6 @@
 //! Parts of blocks put in.
 
-ghost use Rattle.std.specs.Prelude.{◌≡◌, ◌+◌, ◌≤◌, ◌<◌, [], ◌∷◌, length};
+ghost use Rattle.std.specs.Prelude.{◌≡◌, ◌+◌, ◌*◌, ◌≤◌, ◌<◌, [], ◌∷◌, length};
 ghost use Rattle.kernel_permute.specs.Inserting.{inserted};
 ghost use Rattle.kernel_permute.specs.Parts.{dims_of, sizes, starts};
 ghost use Rattle.kernel_permute.specs.Positions.{product};
@@ -32,18 +32,6 @@ pub fn put_in<const R: usize>(
     insert(from, &parts, to, how);
 }
 
-// A row of the part.
-#[inline(always)]
-fn insert_row(from: &[u64], row: &Part, to: &mut [u64], how: How)
-    requires part { row.now.at + row.now.size ≤ row.now.dim }
-    requires from_length { length from.now ≡ row.now.size }
-    requires to_length { length to.old ≡ row.now.dim }
-    requires some { 0 < length from.now }
-    ensures value { to.new ≡ inserted how (row.now.size ∷ []) from.now (row.now.dim ∷ []) (row.now.at ∷ []) to.old }
-{
-    read_neighbours(from, &mut to[row.at..row.at + row.size], how);
-}
-
 // A part that is not empty.
 #[cycle(insertion)]
 #[inline(always)]
@@ -55,7 +43,7 @@ fn insert(from: &[u64], parts: &[Part], to: &mut [u64], how: How)
     ensures value { to.new ≡ inserted how (sizes parts.now) from.now (dims_of parts.now) (starts parts.now) to.old }
 {
     match parts {
-        [row] => insert_row(from, row, to, how),
+        [row] => insert_row(from, *row, to, how),
         _ => insert_block(from, parts, to, how),
     }
 }
@@ -75,15 +63,30 @@ fn insert_block(from: &[u64], parts: &[Part], to: &mut [u64], how: How)
         [first, rest @ ..] => {
             let width = row_width(first.dim, rest, to.len());
             let inner = &mut to[first.at * width..(first.at + first.size) * width];
-            insert_rows(from, first.size, rest, inner, how);
+            insert_within(from, first.size, rest, inner, how);
         }
     }
 }
 
-// Rows that all lie in the part, each with the same part of the row.
+// The same part of each of so many blocks.
 #[cycle(insertion)]
 #[inline(always)]
-fn insert_rows(from: &[u64], count: usize, rest: &[Part], to: &mut [u64], how: How)
+fn insert_within(from: &[u64], count: usize, rest: &[Part], to: &mut [u64], how: How)
+    requires part { IsPart (starts rest.now) (sizes rest.now) (dims_of rest.now) }
+    requires from_length { length from.now ≡ product (count ∷ sizes rest.now) }
+    requires to_length { length to.old ≡ product (count ∷ dims_of rest.now) }
+    requires some { 0 < length from.now }
+    ensures value { to.new ≡ inserted how (count ∷ sizes rest.now) from.now (count ∷ dims_of rest.now) (0 ∷ starts rest.now) to.old }
+{
+    match rest {
+        [row] => insert_rows(from, count, *row, to, how),
+        _ => insert_blocks(from, count, rest, to, how),
+    }
+}
+
+#[cycle(insertion)]
+#[inline(always)]
+fn insert_blocks(from: &[u64], count: usize, rest: &[Part], to: &mut [u64], how: How)
     requires part { IsPart (starts rest.now) (sizes rest.now) (dims_of rest.now) }
     requires from_length { length from.now ≡ product (count ∷ sizes rest.now) }
     requires to_length { length to.old ≡ product (count ∷ dims_of rest.now) }
@@ -100,4 +103,33 @@ fn insert_rows(from: &[u64], count: usize, rest: &[Part], to: &mut [u64], how: H
             how,
         );
     }
+}
+
+// The same part of each of so many rows.
+#[inline(always)]
+fn insert_rows(from: &[u64], count: usize, row: Part, to: &mut [u64], how: How)
+    requires part { row.at + row.size ≤ row.dim }
+    requires from_length { length from.now ≡ count * row.size }
+    requires to_length { length to.old ≡ count * row.dim }
+    ensures value { to.new ≡ inserted how (count ∷ row.size ∷ []) from.now (count ∷ row.dim ∷ []) (0 ∷ row.at ∷ []) to.old }
+{
+    for i in 0..count {
+        insert_row(
+            &from[i * row.size..(i + 1) * row.size],
+            row,
+            &mut to[i * row.dim..(i + 1) * row.dim],
+            how,
+        );
+    }
+}
+
+// A row of the part.
+#[inline(always)]
+fn insert_row(from: &[u64], row: Part, to: &mut [u64], how: How)
+    requires part { row.at + row.size ≤ row.dim }
+    requires from_length { length from.now ≡ row.size }
+    requires to_length { length to.old ≡ row.dim }
+    ensures value { to.new ≡ inserted how (row.size ∷ []) from.now (row.dim ∷ []) (row.at ∷ []) to.old }
+{
+    read_neighbours(from, &mut to[row.at..row.at + row.size], how);
 }

@@ -1,6 +1,6 @@
 //! Parts of blocks taken out.
 
-ghost use Rattle.std.specs.Prelude.{◌≡◌, ◌+◌, ◌≤◌, ◌<◌, [], ◌∷◌, length};
+ghost use Rattle.std.specs.Prelude.{◌≡◌, ◌+◌, ◌*◌, ◌≤◌, ◌<◌, [], ◌∷◌, length};
 ghost use Rattle.kernel_permute.specs.Parts.{dims_of, sizes, starts};
 ghost use Rattle.kernel_permute.specs.Positions.{product};
 ghost use Rattle.kernel_permute.specs.Slicing.{IsPart, sliced};
@@ -31,18 +31,6 @@ pub fn slice_out<const R: usize>(
     slice(from, &parts, to, how);
 }
 
-// A row of the part.
-#[inline(always)]
-fn slice_row(from: &[u64], row: &Part, to: &mut [u64], how: How)
-    requires part { row.now.at + row.now.size ≤ row.now.dim }
-    requires from_length { length from.now ≡ row.now.dim }
-    requires to_length { length to.old ≡ row.now.size }
-    requires some { 0 < length to.old }
-    ensures value { to.new ≡ sliced how (row.now.dim ∷ []) (row.now.at ∷ []) (row.now.size ∷ []) from.now to.old }
-{
-    read_neighbours(&from[row.at..row.at + row.size], to, how);
-}
-
 // A part that is not empty.
 #[cycle(slicing)]
 #[inline(always)]
@@ -54,7 +42,7 @@ fn slice(from: &[u64], parts: &[Part], to: &mut [u64], how: How)
     ensures value { to.new ≡ sliced how (dims_of parts.now) (starts parts.now) (sizes parts.now) from.now to.old }
 {
     match parts {
-        [row] => slice_row(from, row, to, how),
+        [row] => slice_row(from, *row, to, how),
         _ => slice_block(from, parts, to, how),
     }
 }
@@ -74,15 +62,30 @@ fn slice_block(from: &[u64], parts: &[Part], to: &mut [u64], how: How)
         [first, rest @ ..] => {
             let width = row_width(first.dim, rest, from.len());
             let inner = &from[first.at * width..(first.at + first.size) * width];
-            slice_rows(inner, first.size, rest, to, how);
+            slice_within(inner, first.size, rest, to, how);
         }
     }
 }
 
-// Rows that all have a row of the part in them.
+// The same part of each of so many blocks.
 #[cycle(slicing)]
 #[inline(always)]
-fn slice_rows(from: &[u64], count: usize, rest: &[Part], to: &mut [u64], how: How)
+fn slice_within(from: &[u64], count: usize, rest: &[Part], to: &mut [u64], how: How)
+    requires part { IsPart (starts rest.now) (sizes rest.now) (dims_of rest.now) }
+    requires from_length { length from.now ≡ product (count ∷ dims_of rest.now) }
+    requires to_length { length to.old ≡ product (count ∷ sizes rest.now) }
+    requires some { 0 < length to.old }
+    ensures value { to.new ≡ sliced how (count ∷ dims_of rest.now) (0 ∷ starts rest.now) (count ∷ sizes rest.now) from.now to.old }
+{
+    match rest {
+        [row] => slice_rows(from, count, *row, to, how),
+        _ => slice_blocks(from, count, rest, to, how),
+    }
+}
+
+#[cycle(slicing)]
+#[inline(always)]
+fn slice_blocks(from: &[u64], count: usize, rest: &[Part], to: &mut [u64], how: How)
     requires part { IsPart (starts rest.now) (sizes rest.now) (dims_of rest.now) }
     requires from_length { length from.now ≡ product (count ∷ dims_of rest.now) }
     requires to_length { length to.old ≡ product (count ∷ sizes rest.now) }
@@ -99,4 +102,33 @@ fn slice_rows(from: &[u64], count: usize, rest: &[Part], to: &mut [u64], how: Ho
             how,
         );
     }
+}
+
+// The same part of each of so many rows.
+#[inline(always)]
+fn slice_rows(from: &[u64], count: usize, row: Part, to: &mut [u64], how: How)
+    requires part { row.at + row.size ≤ row.dim }
+    requires from_length { length from.now ≡ count * row.dim }
+    requires to_length { length to.old ≡ count * row.size }
+    ensures value { to.new ≡ sliced how (count ∷ row.dim ∷ []) (0 ∷ row.at ∷ []) (count ∷ row.size ∷ []) from.now to.old }
+{
+    for i in 0..count {
+        slice_row(
+            &from[i * row.dim..(i + 1) * row.dim],
+            row,
+            &mut to[i * row.size..(i + 1) * row.size],
+            how,
+        );
+    }
+}
+
+// A row of the part.
+#[inline(always)]
+fn slice_row(from: &[u64], row: Part, to: &mut [u64], how: How)
+    requires part { row.at + row.size ≤ row.dim }
+    requires from_length { length from.now ≡ row.dim }
+    requires to_length { length to.old ≡ row.size }
+    ensures value { to.new ≡ sliced how (row.dim ∷ []) (row.at ∷ []) (row.size ∷ []) from.now to.old }
+{
+    read_neighbours(&from[row.at..row.at + row.size], to, how);
 }

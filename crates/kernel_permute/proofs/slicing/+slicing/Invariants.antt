@@ -6,15 +6,18 @@ use Rattle.kernel_permute.proofs.SlicingLemmas.{taken}
 use Rattle.kernel_permute.proofs.slicing.+slicing.Given as goal
 
 abbrev pub decreases-slice : goal.decreases-slice
-decreases-slice l = 3 * length l.parts.now + 2
+decreases-slice l = 4 * length l.parts.now + 3
 
 abbrev pub decreases-slice_block : goal.decreases-slice_block
-decreases-slice_block l = 3 * length l.parts.now + 1
+decreases-slice_block l = 4 * length l.parts.now + 2
 
-abbrev pub decreases-slice_rows : goal.decreases-slice_rows
-decreases-slice_rows l = 3 * length l.rest.now + 3
+abbrev pub decreases-slice_within : goal.decreases-slice_within
+decreases-slice_within l = 4 * length l.rest.now + 5
 
-abbrev pub invariant-slice_rows-loop-i : goal.invariant-slice_rows-loop-i
-invariant-slice_rows-loop-i l =
+abbrev pub decreases-slice_blocks : goal.decreases-slice_blocks
+decreases-slice_blocks l = 4 * length l.rest.now + 4
+
+abbrev pub invariant-slice_blocks-loop-i : goal.invariant-slice_blocks-loop-i
+invariant-slice_blocks-loop-i l =
     take (l.i * l.piece) l.to ++ rows (taken l.how (l.count ∷ dims_of l.rest) (0 ∷ starts l.rest) l.from) (sizes l.rest) l.i (l.count - l.i) (drop (l.i * l.piece) l.to)
     ≡ sliced l.how (l.count ∷ dims_of l.rest) (0 ∷ starts l.rest) (l.count ∷ sizes l.rest) l.from l.fn.to
