@@ -13,11 +13,14 @@ use std::alloc::{AllocError, Global};
 use std::process::Abort;
 use std::test::Fail;
 
-const LENGTHS_A: [u32; 6] = [2, 3, 4, 5, 6, 7];
+// In each split all axes have different lengths.
+const LENGTHS_A: [u32; 6] = [2, 7, 9, 8, 5, 3];
 
-const LENGTHS_B: [u32; 6] = [3, 2, 5, 4, 7, 6];
+const LENGTHS_B: [u32; 6] = [3, 5, 8, 9, 6, 2];
 
-const LENGTHS_SHARED: [u32; 6] = [4, 2, 3, 5, 7, 6];
+const LENGTHS_SHARED: [u32; 6] = [4, 6, 10, 8, 5, 3];
+
+const NUMBERS: usize = 32_768;
 
 const HOWS: [How; 3] = [How::Set, How::Add, How::Subtract];
 
@@ -130,7 +133,7 @@ fn tiles(rt: HostRuntime) -> Result<(), Fail> {
     Ok(())
 }
 
-// lengths 1, 4, 5 and 9 of each kind, in rows that lie backwards in the second source
+// lengths 1, 4, 5 and 9 of each kind
 #[test]
 fn short_runs_as_the_plain_loop(rt: HostRuntime) -> Result<(), Fail> {
     let a = numbers(rt.alloc(), 100, 0x9e37_79b9_7f4a_7c15, 1)?;
@@ -200,14 +203,20 @@ fn with_lengths(lengths: &[u32; 6]) -> [Axis; 6] {
     })
 }
 
-// the first source has its free axes before the shared ones, the first of all fastest
+// in the first source the axes are turned by one, the first free one fastest: from three axes on an
+// order that is not its own inverse
 fn lay_a(free: &mut [Axis], shared: &mut [Axis]) {
     let mut stride = 1u32;
-    for axis in free.iter_mut() {
+    let (first, others) = free.split_at_mut(free.len().min(1));
+    for axis in first.iter_mut() {
         axis.a = stride;
         stride = stride.wrapping_mul(axis.len);
     }
-    for axis in shared.iter_mut() {
+    for axis in shared.iter_mut().rev() {
+        axis.a = stride;
+        stride = stride.wrapping_mul(axis.len);
+    }
+    for axis in others.iter_mut().rev() {
         axis.a = stride;
         stride = stride.wrapping_mul(axis.len);
     }
@@ -261,9 +270,9 @@ fn split(
     lay_a(free_a, shared);
     lay_b(shared, free_b);
     lay_to(free_a, free_b);
-    let a = numbers(alloc, 10240, 0x9e37_79b9_7f4a_7c15, 1)?;
-    let b = numbers(alloc, 10240, 0xbf58_476d_1ce4_e5b9, 3)?;
-    let mut to = numbers(alloc, 10240, 0x94d0_49bb_1331_11eb, 5)?;
+    let a = numbers(alloc, NUMBERS, 0x9e37_79b9_7f4a_7c15, 1)?;
+    let b = numbers(alloc, NUMBERS, 0xbf58_476d_1ce4_e5b9, 3)?;
+    let mut to = numbers(alloc, NUMBERS, 0x94d0_49bb_1331_11eb, 5)?;
     assert!(rt; is_by_rows(a.len(), b.len(), to.len(), free_a, free_b, shared));
     contract_any(
         a.as_slice(),
