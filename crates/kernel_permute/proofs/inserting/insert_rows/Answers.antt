@@ -1,4 +1,4 @@
-use Rattle.std.proofs.Common.{◌≡◌, ◌∙◌, ◌*◌, [], ◌∷◌, refl, arith}
+use Rattle.std.proofs.Common.{◌≡◌, ◌∙◌, [], ◌∷◌, refl, arith}
 use Rattle.kernel_permute.specs.Positions.{product}
 use Rattle.kernel_permute.proofs.InsertingLemmas.{insert_done, insert_turn}
 use Rattle.kernel_permute.proofs.inserting.insert_rows.Goals as goal

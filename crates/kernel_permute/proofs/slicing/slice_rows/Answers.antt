@@ -1,4 +1,4 @@
-use Rattle.std.proofs.Common.{◌≡◌, ◌∙◌, ◌*◌, [], ◌∷◌, refl, arith}
+use Rattle.std.proofs.Common.{◌≡◌, ◌∙◌, [], ◌∷◌, refl, arith}
 use Rattle.kernel_permute.specs.Positions.{product}
 use Rattle.kernel_permute.proofs.SlicingLemmas.{slice_done, slice_turn}
 use Rattle.kernel_permute.proofs.slicing.slice_rows.Goals as goal
