@@ -1,6 +1,7 @@
 pub mod ProductLemmas
 pub mod PositionsLemmas
 pub mod StridedLemmas
+pub mod RowsLemmas
 pub mod OrderLemmas
 pub mod PermutingLemmas
 pub mod PartsLemmas

@@ -1,15 +1,14 @@
 -- Lemmas on numbers read along strides.
-use Rattle.std.proofs.Common.{◌≡◌, ℕ, zero, suc, ◌+◌, ◌-◌, ◌*◌, ◌/◌, ◌<◌, ◌≤◌, List, [], ◌∷◌, ◌++◌, length, get_or, take, drop, set, sym, ◌∙◌, ap, refl, add_assoc, append_assoc, subst, length-set, arith}
-use Rattle.std.proofs.lemmas.List.{length-drop, length-take-le, take_more_set, drop-set-lt, drop_all, drop_more}
+use Rattle.std.proofs.Common.{◌≡◌, ℕ, suc, ◌+◌, ◌-◌, ◌*◌, ◌/◌, ◌<◌, ◌≤◌, List, [], ◌∷◌, ◌++◌, length, get_or, take, drop, set, sym, ◌∙◌, ap, refl, add_assoc, append_assoc, arith}
+use Rattle.std.proofs.lemmas.List.{length-drop, length-take-le, take_more_set, drop-set-lt, drop_more}
 use Rattle.std.proofs.Math.Nat.{mul-le-mul_right, mul-div_cancel_left}
 use Rattle.std.proofs.lemmas.Slice.{take-put_mid, drop-put_mid}
 use borrow.Rule.Slice.PartMut.{put_mid}
 use Rattle.kernel_permute.specs.declared.axis.Axis.{Axis}
 use Rattle.kernel_permute.specs.declared.how.How.{How}
-use Rattle.kernel_permute.specs.declared.how.How.TheVariants.{Set}
 use Rattle.kernel_permute.specs.How.{combined}
 use Rattle.kernel_permute.specs.Positions.{product, along, each_number, positions}
-use Rattle.kernel_permute.specs.Strided.{lengths, strides, met, met_from}
+use Rattle.kernel_permute.specs.Strided.{lengths, strides, met}
 use Rattle.kernel_permute.proofs.ProductLemmas.{positive_left}
 use Rattle.kernel_permute.proofs.PositionsLemmas.{rows, rows_turn, rows_done, zipped-same}
 
@@ -40,29 +39,6 @@ row_turn how from base stride len i v old all below long is before =
     let step : rows (met how from base (stride ∷ [])) [] i (len - i) (drop i old) ≡ v ∷ rows (met how from base (stride ∷ [])) [] (i + 1) (len - (i + 1)) (drop (i + 1) old) = rw (left, drop_more old i 0 inside, at, ← is) refl in
     rw (take_more_set old i v inside, drop-set-lt (i + 1) old i v next, append_assoc, ← step) before
 
--- one turn of the loop over a row of neighbours
-pub neighbour_turn : (how : How) (from : List ℕ) (len i v : ℕ) (old all : List ℕ) → i < len → length old ≡ len → v ≡ combined how (get_or old i 0) (get_or from i 0) → take i old ++ rows (met how from 0 (1 ∷ [])) [] i (len - i) (drop i old) ≡ all → take (i + 1) (set old i v) ++ rows (met how from 0 (1 ∷ [])) [] (i + 1) (len - (i + 1)) (drop (i + 1) (set old i v)) ≡ all
-neighbour_turn how from len i v old all below long is before =
-    let place : i ≡ 0 + i * 1 = omega arith in
-    row_turn how from 0 1 len i v old all below long (is ∙ ap (λ p. combined how (get_or old i 0) (get_or from p 0)) place) before
-
--- several turns of the loop over a row of neighbours
-pub rows_met : (how : How) (from : List ℕ) (len n i : ℕ) (old all : List ℕ) → i + n ≤ len → length old ≡ len → take i old ++ rows (met how from 0 (1 ∷ [])) [] i (len - i) (drop i old) ≡ all → take (i + n) (met_from how from n i old) ++ rows (met how from 0 (1 ∷ [])) [] (i + n) (len - (i + n)) (drop (i + n) (met_from how from n i old)) ≡ all
-rows_met how from len zero i old all within long before = let here : i + zero ≡ i = omega arith in rw here before
-rows_met how from len (suc n) i old all within long before =
-    let v = combined how (get_or old i 0) (get_or from i 0) in
-    let ends : i + 1 + n ≡ i + suc n = omega arith in
-    subst (λ (e : ℕ). take e (met_from how from n (i + 1) (set old i v)) ++ rows (met how from 0 (1 ∷ [])) [] e (len - e) (drop e (met_from how from n (i + 1) (set old i v))) ≡ all) ends
-    (rows_met how from len n (i + 1) (set old i v) all (omega arith) (length-set old i v ∙ long) (neighbour_turn how from len i v old all (omega arith) long refl before))
-
--- one turn of the loop over fours
-pub fours_turn : (how : How) (from : List ℕ) (len k : ℕ) (old new all : List ℕ) → 4 * k + 4 ≤ len → length old ≡ len → new ≡ met_from how from 4 (4 * k) old → take (4 * k) old ++ rows (met how from 0 (1 ∷ [])) [] (4 * k) (len - 4 * k) (drop (4 * k) old) ≡ all → take (4 * (k + 1)) new ++ rows (met how from 0 (1 ∷ [])) [] (4 * (k + 1)) (len - 4 * (k + 1)) (drop (4 * (k + 1)) new) ≡ all
-fours_turn how from len k old new all within long is before =
-    let next : 4 * k + 4 ≡ 4 * (k + 1) = omega arith in
-    subst (λ (e : ℕ). take e new ++ rows (met how from 0 (1 ∷ [])) [] e (len - e) (drop e new) ≡ all) next
-    (subst (λ (xs : List ℕ). take (4 * k + 4) xs ++ rows (met how from 0 (1 ∷ [])) [] (4 * k + 4) (len - (4 * k + 4)) (drop (4 * k + 4) xs) ≡ all) (sym is)
-    (rows_met how from len 4 (4 * k) old all within long before))
-
 -- the numbers of one row, by the division that the code does
 pub row_width : (first : Axis) (rest axes : List Axis) (n : ℕ) → axes ≡ first ∷ rest → n ≡ product (lengths axes) → 0 < n → product (lengths rest) ≡ n / first.len
 row_width first rest axes n split size some =
@@ -79,17 +55,3 @@ pub read_done : (how : How) (from : List ℕ) (base w i : ℕ) (first : Axis) (r
 read_done how from base w i first rest axes old all over long before =
     let upto : first.len * w ≤ i * w = mul-le-mul_right w over in
     rows_done (met how from base (strides axes)) (lengths rest) (i * w) first.len i old all over (omega arith) before
-
--- neighbours that replace what is there
-rows_copied : (from : List ℕ) (start n : ℕ) (old : List ℕ) → length old ≡ n → start + n ≡ length from → rows (met Set from 0 (1 ∷ [])) [] start n old ≡ drop start from
-rows_copied from start zero old long ends = sym (drop_all start from (omega arith))
-rows_copied from start (suc n) [] long ends = absurd (omega arith)
-rows_copied from start (suc n) (x ∷ xs) long ends =
-    let inside : start < length from = omega arith in
-    let at : 0 + (start * 1 + 0) ≡ start = omega arith in
-    ap (λ p. get_or from p 0 ∷ rows (met Set from 0 (1 ∷ [])) [] (start + 1) n xs) at
-    ∙ ap (λ r. get_or from start 0 ∷ r) (rows_copied from (start + 1) n xs (omega arith) (omega arith))
-    ∙ sym (drop_more from start 0 inside)
-
-pub neighbours_copied : (from old : List ℕ) → length old ≡ length from → from ≡ each_number (met Set from 0 (1 ∷ [])) (length old ∷ []) old
-neighbours_copied from old long = sym (rows_copied from 0 (length old) old refl (omega arith))

@@ -8,7 +8,7 @@ ghost use Rattle.kernel_permute.specs.Slicing.{IsPart};
 
 use crate::how::How;
 use crate::part::{Part, parts_of, row_size, row_width};
-use crate::strided::read_neighbours;
+use crate::rows::meet_row;
 
 /// The source becomes the part of the target that begins at `at`; the rest of the target stays.
 pub fn put_in<const R: usize>(
@@ -131,5 +131,5 @@ fn insert_row(from: &[u64], row: Part, to: &mut [u64], how: How)
     requires to_length { length to.old ≡ row.dim }
     ensures value { to.new ≡ inserted how (row.size ∷ []) from.now (row.dim ∷ []) (row.at ∷ []) to.old }
 {
-    read_neighbours(from, &mut to[row.at..row.at + row.size], how);
+    meet_row(from, &mut to[row.at..row.at + row.size], how);
 }

@@ -7,7 +7,7 @@ ghost use Rattle.kernel_permute.specs.Slicing.{IsPart, sliced};
 
 use crate::how::How;
 use crate::part::{Part, parts_of, row_size, row_width};
-use crate::strided::read_neighbours;
+use crate::rows::meet_row;
 
 /// The target is the part of the source that begins at `at` and has the size of the target.
 pub fn slice_out<const R: usize>(
@@ -130,5 +130,5 @@ fn slice_row(from: &[u64], row: Part, to: &mut [u64], how: How)
     requires to_length { length to.old ≡ row.size }
     ensures value { to.new ≡ sliced how (row.dim ∷ []) (row.at ∷ []) (row.size ∷ []) from.now to.old }
 {
-    read_neighbours(&from[row.at..row.at + row.size], to, how);
+    meet_row(&from[row.at..row.at + row.size], to, how);
 }

@@ -144,212 +144,61 @@ fn patches<const R: usize>(
     Ok(())
 }
 
+// All lengths of a block differ, and so do all lengths of its part.
 const DIMS: [u32; 6] = [5, 4, 8, 3, 7, 6];
 
 const AT: [u32; 6] = [2, 0, 3, 1, 5, 0];
 
 const SIZE: [u32; 6] = [3, 4, 5, 2, 1, 6];
 
+macro_rules! permuted {
+    ($rt:ident; $($rank:literal: $order:expr, $count:literal, $how:ident, $wanted:literal;)*) => {
+        $(permutes::<$rank>(&$rt, $rt.alloc(), &DIMS, &$order, $count, How::$how, $wanted)?;)*
+    };
+}
+
+// Orders that from three dimensions on are not their own inverse.
 #[test]
 fn each_rank_is_permuted(rt: HostRuntime) -> Result<(), Fail> {
-    let memory = rt.alloc();
-    permutes::<1>(
-        &rt,
-        memory,
-        &DIMS,
-        &[0; 6],
-        5,
-        How::Set,
-        14145409057333837015,
-    )?;
-    permutes::<2>(
-        &rt,
-        memory,
-        &DIMS,
-        &[1, 0, 0, 0, 0, 0],
-        20,
-        How::Add,
-        17189187803510436280,
-    )?;
-    permutes::<3>(
-        &rt,
-        memory,
-        &DIMS,
-        &[1, 2, 0, 0, 0, 0],
-        160,
-        How::Subtract,
-        2677856710178683424,
-    )?;
-    permutes::<4>(
-        &rt,
-        memory,
-        &DIMS,
-        &[2, 0, 3, 1, 0, 0],
-        480,
-        How::Set,
-        10130119255543814288,
-    )?;
-    permutes::<5>(
-        &rt,
-        memory,
-        &DIMS,
-        &[4, 0, 3, 1, 2, 0],
-        3360,
-        How::Add,
-        11563926574776794304,
-    )?;
-    permutes::<6>(
-        &rt,
-        memory,
-        &DIMS,
-        &[2, 0, 5, 1, 3, 4],
-        20160,
-        How::Subtract,
-        9360770798969607296,
-    )?;
+    permuted!(rt;
+        1: [0, 0, 0, 0, 0, 0], 5, Set, 14145409057333837015;
+        2: [1, 0, 0, 0, 0, 0], 20, Add, 17189187803510436280;
+        3: [1, 2, 0, 0, 0, 0], 160, Subtract, 2677856710178683424;
+        4: [2, 0, 3, 1, 0, 0], 480, Set, 10130119255543814288;
+        5: [4, 0, 3, 1, 2, 0], 3360, Add, 11563926574776794304;
+        6: [2, 0, 5, 1, 3, 4], 20160, Subtract, 9360770798969607296;
+    );
     Ok(())
+}
+
+macro_rules! parts {
+    ($check:ident, $rt:ident; $($rank:literal: $block:literal, $piece:literal, $how:ident, $wanted:literal;)*) => {
+        $($check::<$rank>(&$rt, $rt.alloc(), &DIMS, &AT, &SIZE, $block, $piece, How::$how, $wanted)?;)*
+    };
 }
 
 #[test]
 fn each_rank_is_cut(rt: HostRuntime) -> Result<(), Fail> {
-    let memory = rt.alloc();
-    cuts::<1>(
-        &rt,
-        memory,
-        &DIMS,
-        &AT,
-        &SIZE,
-        5,
-        3,
-        How::Set,
-        11902690648071671224,
-    )?;
-    cuts::<2>(
-        &rt,
-        memory,
-        &DIMS,
-        &AT,
-        &SIZE,
-        20,
-        12,
-        How::Add,
-        497408671168434168,
-    )?;
-    cuts::<3>(
-        &rt,
-        memory,
-        &DIMS,
-        &AT,
-        &SIZE,
-        160,
-        60,
-        How::Subtract,
-        8307060124730856154,
-    )?;
-    cuts::<4>(
-        &rt,
-        memory,
-        &DIMS,
-        &AT,
-        &SIZE,
-        480,
-        120,
-        How::Set,
-        17429680138143991684,
-    )?;
-    cuts::<5>(
-        &rt,
-        memory,
-        &DIMS,
-        &AT,
-        &SIZE,
-        3360,
-        120,
-        How::Add,
-        8433091885694395944,
-    )?;
-    cuts::<6>(
-        &rt,
-        memory,
-        &DIMS,
-        &AT,
-        &SIZE,
-        20160,
-        720,
-        How::Subtract,
-        11985761577475511856,
-    )?;
+    parts!(cuts, rt;
+        1: 5, 3, Set, 11902690648071671224;
+        2: 20, 12, Add, 497408671168434168;
+        3: 160, 60, Subtract, 8307060124730856154;
+        4: 480, 120, Set, 17429680138143991684;
+        5: 3360, 120, Add, 8433091885694395944;
+        6: 20160, 720, Subtract, 11985761577475511856;
+    );
     Ok(())
 }
 
 #[test]
 fn each_rank_is_patched(rt: HostRuntime) -> Result<(), Fail> {
-    let memory = rt.alloc();
-    patches::<1>(
-        &rt,
-        memory,
-        &DIMS,
-        &AT,
-        &SIZE,
-        5,
-        3,
-        How::Set,
-        453669546176987383,
-    )?;
-    patches::<2>(
-        &rt,
-        memory,
-        &DIMS,
-        &AT,
-        &SIZE,
-        20,
-        12,
-        How::Add,
-        4967003434290419172,
-    )?;
-    patches::<3>(
-        &rt,
-        memory,
-        &DIMS,
-        &AT,
-        &SIZE,
-        160,
-        60,
-        How::Subtract,
-        11836613596406631058,
-    )?;
-    patches::<4>(
-        &rt,
-        memory,
-        &DIMS,
-        &AT,
-        &SIZE,
-        480,
-        120,
-        How::Set,
-        16279901819176555232,
-    )?;
-    patches::<5>(
-        &rt,
-        memory,
-        &DIMS,
-        &AT,
-        &SIZE,
-        3360,
-        120,
-        How::Add,
-        5797011234576221644,
-    )?;
-    patches::<6>(
-        &rt,
-        memory,
-        &DIMS,
-        &AT,
-        &SIZE,
-        20160,
-        720,
-        How::Subtract,
-        12235696680386556280,
-    )?;
+    parts!(patches, rt;
+        1: 5, 3, Set, 453669546176987383;
+        2: 20, 12, Add, 4967003434290419172;
+        3: 160, 60, Subtract, 11836613596406631058;
+        4: 480, 120, Set, 16279901819176555232;
+        5: 3360, 120, Add, 5797011234576221644;
+        6: 20160, 720, Subtract, 12235696680386556280;
+    );
     Ok(())
 }

@@ -2,7 +2,7 @@ use Rattle.std.proofs.Common.{◌≡◌, ◌-◌, ◌*◌, [], ◌∷◌, ◌++�
 use Rattle.kernel_permute.specs.Positions.{each_number}
 use Rattle.kernel_permute.specs.Strided.{met}
 use Rattle.kernel_permute.proofs.PositionsLemmas.{rows}
-use Rattle.kernel_permute.proofs.strided.read_fours.Given as goal
+use Rattle.kernel_permute.proofs.rows.meet_fours.Given as goal
 
 abbrev pub invariant-loop-k : goal.invariant-loop-k
 invariant-loop-k l =
