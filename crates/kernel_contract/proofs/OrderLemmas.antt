@@ -1,10 +1,10 @@
 -- Targets that lie by rows are all different.
-use Rattle.std.proofs.Common.{◌≡◌, ℕ, ◌+◌, ◌-◌, ◌*◌, ◌/◌, ◌%◌, ◌<◌, ◌≤◌, List, [], ◌∷◌, Bool, true, false, cond, ◌&&◌, nat_lt, refl, ap, sym, ◌∙◌, arith}
+use Rattle.std.proofs.Common.{◌≡◌, ℕ, ◌+◌, ◌-◌, ◌*◌, ◌/◌, ◌%◌, ◌<◌, ◌≤◌, List, [], ◌∷◌, Bool, true, false, cond, ◌&&◌, ◌||◌, nat_lt, refl, ap, sym, ◌∙◌, arith}
 use Rattle.std.proofs.Math.Nat.{mul-le-mul_right}
 use Rattle.std.proofs.lemmas.Bool.Decides.{nat_tests}
 use Rattle.std.proofs.lemmas.Nat.{mod-mul-add, div-mul-add}
 use Rattle.kernel_contract.specs.Contraction.{Fits}
-use Rattle.kernel_contract.specs.Order.{by_rows, greatest, longer, nested, nested_alone, nested_beside, stride_in}
+use Rattle.kernel_contract.specs.Order.{by_rows, greatest, keeps_apart, nested, nested_alone, nested_beside, stride_in}
 use Rattle.kernel_contract.specs.Places.{IsPlace, offset}
 use Rattle.kernel_contract.specs.declared.axis.Axis.{Axis}
 use Rattle.kernel_contract.specs.declared.order.Side.TheVariants.{A, B, To}
@@ -32,15 +32,23 @@ same_digits n m w r s hr hs e = (
   sym (mod-mul-add n w r hr) ∙ ap (λ t. t % w) e ∙ mod-mul-add m w s hs,
 )
 
--- where one axis is longer than what all others reach, its numbers agree, and so do the others' offsets
-longest_same : (x : Axis) (first second : List Axis) (y z : ℕ) (f h g k : List ℕ) → longer x first second ≡ true → IsPlace first f → IsPlace first h → IsPlace second g → IsPlace second k
+-- where one axis keeps its places apart, its numbers agree, and so do the others' offsets
+apart_same : (x : Axis) (first second : List Axis) (y z : ℕ) (f h g k : List ℕ) → keeps_apart x first second ≡ true → y < x.len → z < x.len → IsPlace first f → IsPlace first h → IsPlace second g → IsPlace second k
     → y * x.to + (offset (stride_in To) first f + offset (stride_in To) second g) ≡ z * x.to + (offset (stride_in To) first h + offset (stride_in To) second k)
     → (y ≡ z) × (offset (stride_in To) first f + offset (stride_in To) second g ≡ offset (stride_in To) first h + offset (stride_in To) second k)
-longest_same x first second y z f h g k is pf ph pg pk same =
-    let long = below_true (greatest (stride_in To) first + greatest (stride_in To) second) x.to is in
-    same_digits y z x.to (offset (stride_in To) first f + offset (stride_in To) second g) (offset (stride_in To) first h + offset (stride_in To) second k)
-    (omega (arith, long, offset-le (stride_in To) first f pf, offset-le (stride_in To) second g pg))
-    (omega (arith, long, offset-le (stride_in To) first h ph, offset-le (stride_in To) second k pk)) same
+apart_same x first second y z f h g k is below_y below_z pf ph pg pk same = by_length (nat_lt x.len 2) refl is
+  where
+    by_length : (b : Bool) → nat_lt x.len 2 ≡ b → (b || nat_lt (greatest (stride_in To) first + greatest (stride_in To) second) x.to) ≡ true → (y ≡ z) × (offset (stride_in To) first f + offset (stride_in To) second g ≡ offset (stride_in To) first h + offset (stride_in To) second k)
+    by_length true one e =
+        let short : x.len < 2 = below_true x.len 2 one in
+        let head : y ≡ z = omega arith in
+        let begin : y * x.to ≡ z * x.to = ap (λ n. n * x.to) head in
+        (head, omega (arith, same, begin))
+    by_length false one e =
+        let long = below_true (greatest (stride_in To) first + greatest (stride_in To) second) x.to e in
+        same_digits y z x.to (offset (stride_in To) first f + offset (stride_in To) second g) (offset (stride_in To) first h + offset (stride_in To) second k)
+        (omega (arith, long, offset-le (stride_in To) first f pf, offset-le (stride_in To) second g pg))
+        (omega (arith, long, offset-le (stride_in To) first h ph, offset-le (stride_in To) second k pk)) same
 
 alone_same : (axes : List Axis) (g k : List ℕ) → nested_alone axes ≡ true → IsPlace axes g → IsPlace axes k → offset (stride_in To) axes g ≡ offset (stride_in To) axes k → g ≡ k
 alone_same [] [] [] is pg pk same = refl
@@ -49,8 +57,8 @@ alone_same [] [] (m ∷ ms) is pg pk same = absurd pk
 alone_same (x ∷ xs) [] k is pg pk same = absurd pg
 alone_same (x ∷ xs) (m ∷ ms) [] is pg pk same = absurd pk
 alone_same (x ∷ xs) (m ∷ ms) (n ∷ ns) is pg pk same =
-    let both = both_true (longer x [] xs) (nested_alone xs) is in
-    let digits = longest_same x [] xs m n [] [] ms ns both.0 tt tt pg.1 pk.1 (omega (arith, same)) in
+    let both = both_true (keeps_apart x [] xs) (nested_alone xs) is in
+    let digits = apart_same x [] xs m n [] [] ms ns both.0 pg.0 pk.0 tt tt pg.1 pk.1 (omega (arith, same)) in
     let head = digits.0 in
     let tail = alone_same xs ms ns both.1 pg.1 pk.1 (omega (arith, digits.1)) in
     cc
@@ -62,22 +70,22 @@ OnePair first second = (f h g k : List ℕ) → IsPlace first f → IsPlace firs
     → (f ≡ h) × (g ≡ k)
 
 -- an axis before the first list
-one_more : (x : Axis) (xs second : List Axis) → longer x xs second ≡ true → OnePair xs second → OnePair (x ∷ xs) second
+one_more : (x : Axis) (xs second : List Axis) → keeps_apart x xs second ≡ true → OnePair xs second → OnePair (x ∷ xs) second
 one_more x xs second is rest [] h g k pf ph pg pk same = absurd pf
 one_more x xs second is rest (m ∷ ms) [] g k pf ph pg pk same = absurd ph
 one_more x xs second is rest (m ∷ ms) (n ∷ ns) g k pf ph pg pk same =
-    let digits = longest_same x xs second m n ms ns g k is pf.1 ph.1 pg pk (omega (arith, same)) in
+    let digits = apart_same x xs second m n ms ns g k is pf.0 ph.0 pf.1 ph.1 pg pk (omega (arith, same)) in
     let others = rest ms ns g k pf.1 ph.1 pg pk digits.1 in
     let head = digits.0 in
     let tail = others.0 in
     (cc, others.1)
 
 -- and before the second one
-one_more_after : (y : Axis) (first ys : List Axis) → longer y first ys ≡ true → OnePair first ys → OnePair first (y ∷ ys)
+one_more_after : (y : Axis) (first ys : List Axis) → keeps_apart y first ys ≡ true → OnePair first ys → OnePair first (y ∷ ys)
 one_more_after y first ys is rest f h [] k pf ph pg pk same = absurd pg
 one_more_after y first ys is rest f h (m ∷ ms) [] pf ph pg pk same = absurd pk
 one_more_after y first ys is rest f h (m ∷ ms) (n ∷ ns) pf ph pg pk same =
-    let digits = longest_same y first ys m n f h ms ns is pf ph pg.1 pk.1 (omega (arith, same)) in
+    let digits = apart_same y first ys m n f h ms ns is pg.0 pk.0 pf ph pg.1 pk.1 (omega (arith, same)) in
     let others = rest f h ms ns pf ph pg.1 pk.1 digits.1 in
     let head = digits.0 in
     let tail = others.1 in
@@ -85,16 +93,16 @@ one_more_after y first ys is rest f h (m ∷ ms) (n ∷ ns) pf ph pg pk same =
 
 beside_same : (x : Axis) (xs : List Axis) (go : (second : List Axis) → nested xs second ≡ true → OnePair xs second) (second : List Axis) → nested_beside x xs (nested xs) second ≡ true → OnePair (x ∷ xs) second
 beside_same x xs go [] is =
-    let both = both_true (longer x xs []) (nested xs []) is in
+    let both = both_true (keeps_apart x xs []) (nested xs []) is in
     one_more x xs [] both.0 (go [] both.1)
 beside_same x xs go (y ∷ ys) is = by_stride (beside_same x xs go ys) (nat_lt y.to x.to) is
   where
-    by_stride : (nested_beside x xs (nested xs) ys ≡ true → OnePair (x ∷ xs) ys) → (b : Bool) → cond b (longer x xs (y ∷ ys) && nested xs (y ∷ ys)) (longer y (x ∷ xs) ys && nested_beside x xs (nested xs) ys) ≡ true → OnePair (x ∷ xs) (y ∷ ys)
+    by_stride : (nested_beside x xs (nested xs) ys ≡ true → OnePair (x ∷ xs) ys) → (b : Bool) → cond b (keeps_apart x xs (y ∷ ys) && nested xs (y ∷ ys)) (keeps_apart y (x ∷ xs) ys && nested_beside x xs (nested xs) ys) ≡ true → OnePair (x ∷ xs) (y ∷ ys)
     by_stride next true e =
-        let both = both_true (longer x xs (y ∷ ys)) (nested xs (y ∷ ys)) e in
+        let both = both_true (keeps_apart x xs (y ∷ ys)) (nested xs (y ∷ ys)) e in
         one_more x xs (y ∷ ys) both.0 (go (y ∷ ys) both.1)
     by_stride next false e =
-        let both = both_true (longer y (x ∷ xs) ys) (nested_beside x xs (nested xs) ys) e in
+        let both = both_true (keeps_apart y (x ∷ xs) ys) (nested_beside x xs (nested xs) ys) e in
         one_more_after y (x ∷ xs) ys both.0 (next both.1)
 
 nothing_before : (second : List Axis) → nested_alone second ≡ true → OnePair [] second

@@ -2,16 +2,15 @@
 
 ghost use Rattle.std.specs.Prelude.{◌≡◌, ◌+◌, ◌-◌, ◌^◌, IsTrue, min};
 ghost use Rattle.kernel_contract.specs.Contraction.{Fits};
-ghost use Rattle.kernel_contract.specs.Order.{by_rows, greatest, longer, nested, stride_in};
+ghost use Rattle.kernel_contract.specs.Order.{by_rows, greatest, keeps_apart, nested, stride_in};
 
 use crate::axis::Axis;
 
 /// Whether all places lie in slices of these lengths, and the target lies by rows: its axes taken by
-/// falling stride, each stride is longer than what the axes after it reach.
+/// falling stride, each has one place, or a longer stride than what the axes after it reach.
 ///
-/// It takes the axes of each list in their order, so each list has to begin with its longest strides
-/// in the target; the lists may lie between one another. A contraction may fit where this is false,
-/// since a target need not lie by rows.
+/// Each list is to be given by falling stride in the target; the axes of one may lie between those of
+/// the other. A contraction may fit where this is false, since a target need not lie by rows.
 pub fn is_by_rows(
     a: usize,
     b: usize,
@@ -83,26 +82,26 @@ fn reach(first: &[Axis], second: &[Axis], side: Side) -> u64
     longest(first, side).saturating_add(longest(second, side))
 }
 
-// whether an axis's stride in the target is longer than what the other axes reach there
-fn is_longer(axis: &Axis, first: &[Axis], second: &[Axis]) -> bool
-    ensures { result ≡ longer axis.now first.now second.now }
+// whether an axis keeps its places apart in the target, wherever the other axes stand
+fn keeps_apart(axis: &Axis, first: &[Axis], second: &[Axis]) -> bool
+    ensures { result ≡ keeps_apart axis.now first.now second.now }
 {
-    reach(first, second, Side::To) < axis.to as u64
+    axis.len < 2 || reach(first, second, Side::To) < axis.to as u64
 }
 
-// whether, by falling stride, each axis has a longer stride than the axes after it reach
+// whether, taken by falling stride, each axis keeps its places apart
 fn is_nested(first: &[Axis], second: &[Axis]) -> bool
     ensures { result ≡ nested first.now second.now }
 {
     match (first, second) {
         ([], []) => true,
-        ([x, xs @ ..], []) => is_longer(x, xs, second) && is_nested(xs, second),
-        ([], [y, ys @ ..]) => is_longer(y, first, ys) && is_nested(first, ys),
+        ([x, xs @ ..], []) => keeps_apart(x, xs, second) && is_nested(xs, second),
+        ([], [y, ys @ ..]) => keeps_apart(y, first, ys) && is_nested(first, ys),
         ([x, xs @ ..], [y, ys @ ..]) => {
             if y.to < x.to {
-                is_longer(x, xs, second) && is_nested(xs, second)
+                keeps_apart(x, xs, second) && is_nested(xs, second)
             } else {
-                is_longer(y, first, ys) && is_nested(first, ys)
+                keeps_apart(y, first, ys) && is_nested(first, ys)
             }
         }
     }
