@@ -26,9 +26,9 @@ fn what_is_there_is_added_to_or_taken_from(rt: HostRuntime) {
     let mut turned = [10, 20, 30, 40, 50, 60];
     permute(&block, &dims, &[1, 0], &mut turned, How::Add);
     assert_eq!(rt; turned, [11, 24, 32, 45, 53, 66]);
-    let mut part = [3; 4];
+    let mut part = [9, 4, 7, 1];
     slice_out(&block, &dims, &at, &size, &mut part, How::Subtract);
-    assert_eq!(rt; part, [1, 0, u64::MAX - 1, u64::MAX - 2]);
+    assert_eq!(rt; part, [7, 1, 2, u64::MAX - 4]);
     let mut patched = block;
     put_in(&[7, 8, 9, 10], &size, &mut patched, &dims, &at, How::Add);
     assert_eq!(rt; patched, [1, 9, 11, 4, 14, 16]);
