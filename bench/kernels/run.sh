@@ -1,7 +1,7 @@
 #!/usr/bin/env bash
 # Times the kernels beside plain loops in Rust and prints the ratios: run.sh [ROUNDS].
 set -eu
-rounds=${1:-20}
+rounds=${1:-100}
 here=$(cd "$(dirname "$0")" && pwd)
 top=$(cd "$here/../.." && pwd)
 work=$(mktemp -d)
@@ -24,42 +24,53 @@ else
     echo "no rustc here: the plain loops are left out" >&2
 fi
 
-# The least of all rounds counts, since whatever else runs here only adds to a time.
-for _ in $(seq "$rounds"); do
+# The programs run in turn. The least of all rounds counts, since whatever else runs here only adds to
+# a time; how far the rounds with odd and with even numbers agree tells how settled a ratio is.
+for round in $(seq "$rounds"); do
+    half=$((round % 2))
     if [ -n "$plain" ]; then
-        "$plain" | sed 's/^/plain /'
+        "$plain" | sed "s/^/plain $half /"
     fi
-    "$proved" times | sed 's/^/proved /'
+    "$proved" times | sed "s/^/proved $half /"
 done > "$work/times"
 
 rt version
 if [ -n "$plain" ]; then
     rustc --version
 fi
+echo "rounds $rounds"
 awk '
+    function keep(key) {
+        if (!(key in least) || took < least[key]) least[key] = took
+    }
+    function ratio(of, to, half) {
+        return least[of half] / least[to half]
+    }
     {
-        call = $2 " " $3
-        if (!($2 in sum)) {
-            cases[++count] = $2
-            sum[$2] = $5
-            if ($1 == "plain") loop[$2] = call
+        half = $2
+        call = $3 " " $4
+        took = $5 + 0
+        if (!($3 in sum)) {
+            cases[++count] = $3
+            sum[$3] = $6
+            if ($1 == "plain") loop[$3] = call
         }
-        if (!(call in least)) {
-            calls[$2] = calls[$2] " " $3
-            least[call] = $4
-        }
-        if ($4 + 0 < least[call] + 0) least[call] = $4
-        if (sum[$2] "" != $5 "") differs[$2] = 1
+        if (!(call in least)) calls[$3] = calls[$3] " " $4
+        keep(call)
+        keep(call " " half)
+        if (sum[$3] "" != $6 "") differs[$3] = 1
     }
     END {
-        printf "%-22s %-16s %12s %8s\n", "case", "call", "nanoseconds", "ratio"
+        printf "%-22s %-16s %12s %7s %12s\n", "case", "call", "nanoseconds", "ratio", "halves"
         for (i = 1; i <= count; i++) {
             name = cases[i]
             many = split(calls[name], of_case, " ")
             for (j = 1; j <= many; j++) {
-                took = least[name " " of_case[j]]
-                ratio = name in loop ? sprintf("%.2f", took / least[loop[name]]) : "-"
-                printf "%-22s %-16s %12d %8s\n", name, of_case[j], took, ratio
+                call = name " " of_case[j]
+                printf "%-22s %-16s %12d", name, of_case[j], least[call]
+                if (name in loop) printf " %7.2f", ratio(call, loop[name], "")
+                if (name in loop && call " 0" in least) printf "  %5.2f %5.2f", ratio(call, loop[name], " 1"), ratio(call, loop[name], " 0")
+                print ""
             }
         }
         for (name in differs) {

@@ -3,11 +3,13 @@
 //! Each loop goes over memory in the order of the proved one that it stands beside.
 
 use std::hint::black_box;
+use std::ops::Range;
 use std::time::Instant;
 
-const CONTRACTIONS: u32 = 10;
-const COPIES: u32 = 500;
-const PASSES: u32 = 50;
+// As many calls of a kind as take some tenths of a millisecond, so that most runs are not interrupted.
+const CONTRACTIONS: u32 = 2;
+const COPIES: u32 = 100;
+const PASSES: u32 = 10;
 const LENGTH: usize = 65_536;
 
 fn main() {
@@ -20,7 +22,10 @@ fn main() {
     time_permutation("permutation_3210", [3, 2, 1, 0], |_, value| value);
     time_permutation("permutation_1023", [1, 0, 2, 3], |_, value| value);
     time_permutation("added_2031", [2, 0, 3, 1], u64::wrapping_add);
-    time_parts();
+    time_slice("slice", |_, value| value);
+    time_slice("slice_added", u64::wrapping_add);
+    time_insertion("insertion", |_, value| value);
+    time_insertion("insertion_added", u64::wrapping_add);
     time_elements();
 }
 
@@ -140,34 +145,46 @@ fn permute(
     }
 }
 
-fn time_parts() {
+fn time_slice(case: &str, combine: impl Fn(u64, u64) -> u64) {
     let (dims, at, size) = ([10; 4], [1, 2, 0, 1], [6, 7, 8, 9]);
     let block = numbers(10_000, 1);
-    let part = numbers(3024, 2);
     let mut to = numbers(3024, 3);
-    time("slice", "loops", COPIES, &mut to, |to| {
+    time(case, "loops", COPIES, &mut to, |to| {
         slice(
             &block,
             black_box(&dims),
             black_box(&at),
             black_box(&size),
             to,
+            &combine,
         );
     });
+}
+
+fn time_insertion(case: &str, combine: impl Fn(u64, u64) -> u64) {
+    let (dims, at, size) = ([10; 4], [1, 2, 0, 1], [6, 7, 8, 9]);
+    let part = numbers(3024, 2);
     let mut to = numbers(10_000, 3);
-    time("insertion", "loops", COPIES, &mut to, |to| {
+    time(case, "loops", COPIES, &mut to, |to| {
         insert(
             &part,
             black_box(&size),
             to,
             black_box(&dims),
             black_box(&at),
+            &combine,
         );
     });
 }
 
-#[inline(never)]
-fn slice(from: &[u64], dims: &[usize; 4], at: &[usize; 4], size: &[usize; 4], to: &mut [u64]) {
+// Where each row of a part lies in the block, and where in the part.
+#[inline(always)]
+fn each_row(
+    dims: &[usize; 4],
+    at: &[usize; 4],
+    size: &[usize; 4],
+    mut row: impl FnMut(Range<usize>, Range<usize>),
+) {
     let strides = strides(dims);
     let mut place = 0;
     for w in 0..size[0] {
@@ -175,33 +192,46 @@ fn slice(from: &[u64], dims: &[usize; 4], at: &[usize; 4], size: &[usize; 4], to
             for y in 0..size[2] {
                 let base = (at[0] + w) * strides[0] + (at[1] + x) * strides[1];
                 let base = base + (at[2] + y) * strides[2] + at[3];
-                let row = &from[base..base + size[3]];
-                for (number, value) in to[place..place + size[3]].iter_mut().zip(row) {
-                    *number = *value;
-                }
+                row(base..base + size[3], place..place + size[3]);
                 place += size[3];
             }
         }
     }
 }
 
-#[inline(never)]
-fn insert(from: &[u64], size: &[usize; 4], to: &mut [u64], dims: &[usize; 4], at: &[usize; 4]) {
-    let strides = strides(dims);
-    let mut place = 0;
-    for w in 0..size[0] {
-        for x in 0..size[1] {
-            for y in 0..size[2] {
-                let base = (at[0] + w) * strides[0] + (at[1] + x) * strides[1];
-                let base = base + (at[2] + y) * strides[2] + at[3];
-                let row = &from[place..place + size[3]];
-                for (number, value) in to[base..base + size[3]].iter_mut().zip(row) {
-                    *number = *value;
-                }
-                place += size[3];
-            }
-        }
+#[inline(always)]
+fn meet(to: &mut [u64], from: &[u64], combine: impl Fn(u64, u64) -> u64) {
+    for (number, value) in to.iter_mut().zip(from) {
+        *number = combine(*number, *value);
     }
+}
+
+#[inline(never)]
+fn slice(
+    from: &[u64],
+    dims: &[usize; 4],
+    at: &[usize; 4],
+    size: &[usize; 4],
+    to: &mut [u64],
+    combine: impl Fn(u64, u64) -> u64,
+) {
+    each_row(dims, at, size, |in_block, in_part| {
+        meet(&mut to[in_part], &from[in_block], &combine);
+    });
+}
+
+#[inline(never)]
+fn insert(
+    from: &[u64],
+    size: &[usize; 4],
+    to: &mut [u64],
+    dims: &[usize; 4],
+    at: &[usize; 4],
+    combine: impl Fn(u64, u64) -> u64,
+) {
+    each_row(dims, at, size, |in_block, in_part| {
+        meet(&mut to[in_block], &from[in_part], &combine);
+    });
 }
 
 fn time_elements() {

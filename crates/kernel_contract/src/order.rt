@@ -2,14 +2,15 @@
 
 ghost use Rattle.std.specs.Prelude.{◌≡◌, ◌+◌, ◌-◌, ◌^◌, IsTrue, min};
 ghost use Rattle.kernel_contract.specs.Contraction.{Fits};
-ghost use Rattle.kernel_contract.specs.Order.{by_rows, greatest, nested, stride_in};
+ghost use Rattle.kernel_contract.specs.Order.{by_rows, greatest, keeps_apart, nested, stride_in};
 
 use crate::axis::Axis;
 
-/// Whether all places lie in slices of these lengths, and the target lies by rows: each stride
-/// there is longer than what the axes after it reach, those of `free_b` after those of `free_a`.
+/// Whether all places lie in slices of these lengths, and the target lies by rows: its axes taken by
+/// falling stride, each has one place, or a longer stride than what the axes after it reach.
 ///
-/// A contraction may fit where this is false, since a target may lie otherwise.
+/// Each list is to be given by falling stride in the target; the axes of one may lie between those of
+/// the other. A contraction may fit where this is false, since a target need not lie by rows.
 pub fn is_by_rows(
     a: usize,
     b: usize,
@@ -37,8 +38,7 @@ fn lies_by_rows(
     reach(free_a, shared, Side::A) < a as u64
         && reach(free_b, shared, Side::B) < b as u64
         && reach(free_a, free_b, Side::To) < to as u64
-        && is_nested(free_a, longest(free_b, Side::To))
-        && is_nested(free_b, 0)
+        && is_nested(free_a, free_b)
 }
 
 /// One of the three lists of numbers.
@@ -82,14 +82,27 @@ fn reach(first: &[Axis], second: &[Axis], side: Side) -> u64
     longest(first, side).saturating_add(longest(second, side))
 }
 
-// whether each stride in the target is longer than `below` and what the axes after it reach
-fn is_nested(axes: &[Axis], below: u64) -> bool
-    ensures { result ≡ nested axes.now below }
+// whether an axis keeps its places apart in the target, wherever the other axes stand
+fn keeps_apart(axis: &Axis, first: &[Axis], second: &[Axis]) -> bool
+    ensures { result ≡ keeps_apart axis.now first.now second.now }
 {
-    match axes {
-        [] => true,
-        [axis, rest @ ..] => {
-            longest(rest, Side::To).saturating_add(below) < axis.to as u64 && is_nested(rest, below)
+    axis.len < 2 || reach(first, second, Side::To) < axis.to as u64
+}
+
+// whether, taken by falling stride, each axis keeps its places apart
+fn is_nested(first: &[Axis], second: &[Axis]) -> bool
+    ensures { result ≡ nested first.now second.now }
+{
+    match (first, second) {
+        ([], []) => true,
+        ([x, xs @ ..], []) => keeps_apart(x, xs, second) && is_nested(xs, second),
+        ([], [y, ys @ ..]) => keeps_apart(y, first, ys) && is_nested(first, ys),
+        ([x, xs @ ..], [y, ys @ ..]) => {
+            if y.to < x.to {
+                keeps_apart(x, xs, second) && is_nested(xs, second)
+            } else {
+                keeps_apart(y, first, ys) && is_nested(first, ys)
+            }
         }
     }
 }

@@ -1,6 +1,6 @@
 -- Lemmas on a part that is put in row by row.
 use Rattle.std.proofs.Common.{◌≡◌, ℕ, ◌+◌, ◌-◌, ◌*◌, ◌/◌, ◌<◌, ◌≤◌, Bool, true, false, cond, ◌&&◌, nat_le, nat_lt, List, [], ◌∷◌, ◌++◌, length, get_or, take, drop, ap, sym, ◌∙◌, refl, arith}
-use Rattle.std.proofs.Math.Nat.{mul-le-mul_right, mul-div_cancel_left, le-mul_of_pos_right, mul-pos}
+use Rattle.std.proofs.Math.Nat.{mul-le-mul_right}
 use Rattle.std.proofs.lemmas.Bool.{ltb-true, leb-true, lt-ltb, le-leb, le-ltb, lt-leb, and_parts}
 use Rattle.std.proofs.lemmas.List.{length-drop, length-take-le, get_or-take, get_or-drop}
 use Rattle.kernel_permute.specs.declared.how.How.{How}
@@ -9,13 +9,11 @@ use Rattle.kernel_permute.specs.How.{combined}
 use Rattle.kernel_permute.specs.Inserting.{is_in_part, unshifted, put, inserted}
 use Rattle.kernel_permute.specs.Parts.{starts, sizes, dims_of}
 use Rattle.kernel_permute.specs.Positions.{IsPosition, product, place, positions, each_number}
-use Rattle.kernel_permute.specs.Slicing.{IsPart}
 use Rattle.kernel_permute.specs.Strided.{met}
-use Rattle.kernel_permute.proofs.ProductLemmas.{positive_left, positive_right}
-use Rattle.kernel_permute.proofs.SlicingLemmas.{positive_from_part}
+use Rattle.kernel_permute.proofs.PartsLemmas.{FirstSplit}
 use Rattle.std.proofs.lemmas.Slice.{take-put_mid, drop-put_mid}
 use borrow.Rule.Slice.PartMut.{put_mid}
-use Rattle.kernel_permute.proofs.PositionsLemmas.{zipped-same, rows-kept, rows-shifted, rows_turn, rows_done, rows, rows-append, each_number-same}
+use Rattle.kernel_permute.proofs.PositionsLemmas.{zipped-same, rows-kept, rows-shifted, rows_turn, rows_done, rows, rows-append, each_number-kept, each_number-same}
 
 -- a position in the part stands for one of the source's
 pub place_within : (at size x : List ℕ) → is_in_part at size x ≡ true → place size (unshifted at x) < product size
@@ -115,53 +113,12 @@ insert_row how n count from old e = ap (λ k. each_number (met how from 0 (1 ∷
         let none : 0 + (y * 1 + 0) ≡ (y - 0) * 1 + 0 = omega arith in
         rw (low, high, none) refl
 
--- what is known of a part, once its first dimension is taken apart; the source has m numbers, the target n
-pub record FirstSplit (first : Part) (rest : List Part) (m n : ℕ) : Type 0 where
-  pub part : IsPart (starts rest) (sizes rest) (dims_of rest)
-  pub within : first.at + first.size ≤ first.dim
-  pub fits : first.at + first.size ≤ n
-  pub source : m ≡ product (first.size ∷ sizes rest)
-  pub width : product (dims_of rest) ≡ n / first.dim
-  pub target : n ≡ first.dim * (n / first.dim)
-  pub dim : 0 < first.dim
-
-pub first_split : (first : Part) (rest parts : List Part) (m n : ℕ) → parts ≡ first ∷ rest → IsPart (starts parts) (sizes parts) (dims_of parts) → m ≡ product (sizes parts) → n ≡ product (dims_of parts) → 0 < m → FirstSplit first rest m n
-first_split first rest parts m n split part source target some =
-    let all = rw split at part in
-    let source_is : m ≡ first.size * product (sizes rest) = source ∙ ap (λ p. product (sizes p)) split in
-    let target_is : n ≡ first.dim * product (dims_of rest) = target ∙ ap (λ p. product (dims_of p)) split in
-    let filled : 0 < product (sizes parts) = omega arith in
-    let wide : 0 < product (dims_of parts) = positive_from_part (starts parts) (sizes parts) (dims_of parts) part filled in
-    let both : 0 < first.dim * product (dims_of rest) = omega arith in
-    let dim : 0 < first.dim = positive_left first.dim (product (dims_of rest)) both in
-    let inner : 0 < product (dims_of rest) = positive_right first.dim (product (dims_of rest)) both in
-    let width : product (dims_of rest) ≡ n / first.dim = rw target_is (sym (mul-div_cancel_left (product (dims_of rest)) dim)) in
-    let more : first.dim ≤ first.dim * product (dims_of rest) = le-mul_of_pos_right first.dim inner in
-    record {
-      part = all.1;
-      within = all.0;
-      fits = omega arith;
-      source = source_is;
-      width = width;
-      target = target_is ∙ ap (λ w. first.dim * w) width;
-      dim = dim;
-    }
-
--- how many numbers lie in the rows of the part
-pub length-inner : (first : Part) (rest : List Part) (m : ℕ) (to : List ℕ) → FirstSplit first rest m (length to) → length (take ((first.at + first.size) * (length to / first.dim) - first.at * (length to / first.dim)) (drop (first.at * (length to / first.dim)) to)) ≡ first.size * product (dims_of rest)
-length-inner first rest m to known =
-    let w = length to / first.dim in
-    let k : (first.at + first.size) * w - first.at * w ≡ first.size * w = omega arith in
-    let upto : (first.at + first.size) * w ≤ first.dim * w = mul-le-mul_right w known.within in
-    let filled : length to ≡ first.dim * w = known.target in
-    length-take-le ((first.at + first.size) * w - first.at * w) (drop (first.at * w) to) (omega (arith, length-drop (first.at * w) to)) ∙ k ∙ ap (λ v. first.size * v) (sym known.width)
-
 -- the first dimension's part, put in
 pub insert_first : (how : How) (first : Part) (rest parts : List Part) (from to inner new : List ℕ) → parts ≡ first ∷ rest → FirstSplit first rest (length from) (length to) → inner ≡ inserted how (first.size ∷ sizes rest) from (first.size ∷ dims_of rest) (0 ∷ starts rest) (take ((first.at + first.size) * (length to / first.dim) - first.at * (length to / first.dim)) (drop (first.at * (length to / first.dim)) to)) → new ≡ put_mid (first.at * (length to / first.dim)) ((first.at + first.size) * (length to / first.dim) - first.at * (length to / first.dim)) to inner → new ≡ inserted how (sizes parts) from (dims_of parts) (starts parts) to
 insert_first how first rest parts from to inner new split known is written =
     let within = known.within in
     let parted : first.dim ≡ first.at + (first.size + (first.dim - (first.at + first.size))) = omega arith in
-    insert_is how first.at first.size (first.dim - (first.at + first.size)) (length to / first.dim) (sizes rest) from (starts rest) (dims_of rest) to inner new known.width (known.target ∙ ap (λ d. d * (length to / first.dim)) parted) is written
+    insert_is how first.at first.size (first.dim - (first.at + first.size)) (length to / first.dim) (sizes rest) from (starts rest) (dims_of rest) to inner new known.width (known.whole ∙ ap (λ d. d * (length to / first.dim)) parted) is written
     ∙ ap (λ d. inserted how (first.size ∷ sizes rest) from (d ∷ dims_of rest) (first.at ∷ starts rest) to) (sym parted)
     ∙ ap (λ p. inserted how (sizes p) from (dims_of p) (starts p) to) (sym split)
 
@@ -178,22 +135,16 @@ insert_row_is how a z d n from old inner new within long count is written =
     let new_is : new ≡ put_mid (a * 1) ((a + z) * 1 - a * 1) old inner = written ∙ ap (λ m. put_mid a m old inner) k ∙ ap (λ m. put_mid m ((a + z) * 1 - a * 1) old inner) one in
     insert_is how a z r 1 [] from [] [] old inner new refl (long ∙ omega arith) inner_is new_is ∙ ap (λ m. inserted how (z ∷ []) from (m ∷ []) (a ∷ []) old) (sym parted)
 
--- the numbers of one of so many rows
-pub row_of : (count n m : ℕ) → m ≡ count * n → 0 < m → n ≡ m / count
-row_of count n m is some =
-    let filled : 0 < count * n = omega arith in
-    let any : 0 < count = positive_left count n filled in
-    rw is (sym (mul-div_cancel_left n any))
-
--- where the source is not empty, the target is not
-pub rows_some : (count : ℕ) (rest : List Part) (m n : ℕ) → IsPart (starts rest) (sizes rest) (dims_of rest) → m ≡ product (count ∷ sizes rest) → n ≡ product (count ∷ dims_of rest) → 0 < m → 0 < n
-rows_some count rest m n part source target some =
-    let filled : 0 < count * product (sizes rest) = omega arith in
-    let inner : 0 < product (dims_of rest) = positive_from_part (starts rest) (sizes rest) (dims_of rest) part (positive_right count (product (sizes rest)) filled) in
-    rw target (mul-pos (positive_left count (product (sizes rest)) filled) inner)
-
 -- after the last row the part is in
 pub insert_done : (how : How) (count i w : ℕ) (size from at dims old all : List ℕ) → count ≤ i → length old ≡ count * w → take (i * w) old ++ rows (put how (count ∷ size) from (0 ∷ at)) dims i (count - i) (drop (i * w) old) ≡ all → old ≡ all
 insert_done how count i w size from at dims old all over long before =
     let upto : count * w ≤ i * w = mul-le-mul_right w over in
     rows_done (put how (count ∷ size) from (0 ∷ at)) dims (i * w) count i old all over (omega arith) before
+
+-- a part with no number changes nothing
+pub inserted_none : (how : How) (size from dims at old : List ℕ) → product size ≡ 0 → length old ≡ product dims → old ≡ inserted how size from dims at old
+inserted_none how size from dims at old none long = sym (each_number-kept (put how size from at) dims old (λ p x. outside p x (is_in_part at size p) refl) long)
+  where
+    outside : (p : List ℕ) (x : ℕ) (b : Bool) → is_in_part at size p ≡ b → cond b (combined how x (get_or from (place size (unshifted at p)) 0)) x ≡ x
+    outside p x false is = refl
+    outside p x true is = let within : place size (unshifted at p) < product size = place_within at size p is in absurd (omega arith)

@@ -13,7 +13,6 @@ use Rattle.kernel_permute.specs.Slicing.{IsPart, shifted}
 use Rattle.kernel_permute.proofs.OrderLemmas.{AllBelow, along-picked, total, total-picked}
 use Rattle.kernel_permute.proofs.PositionLaws.{each_number-at, length-each_number}
 use Rattle.kernel_permute.proofs.ProductLemmas.{length-strides_of}
-use Rattle.kernel_permute.proofs.SlicingLemmas.{length-position}
 
 -- what is left of c in each place
 abbrev complements : ℕ → List ℕ → List ℕ
@@ -92,6 +91,12 @@ picked-leads ss xs (k ∷ ks) long below =
     let rest : total (picked ks (leads ss xs)) ≡ along (picked ks ss) (picked ks xs) = picked-leads ss xs ks long below.1 in
     let here : get_or (leads ss xs) k 0 ≡ get_or xs k 0 * get_or ss k 0 = get_or-leads ss xs k long below.0 in
     omega arith
+
+length-position : (ds ys : List ℕ) → IsPosition ds ys → length ys ≡ length ds
+length-position [] [] is = refl
+length-position [] (y ∷ ys) is = absurd is
+length-position (d ∷ ds) [] is = absurd is
+length-position (d ∷ ds) (y ∷ ys) is = ap (λ n. suc n) (length-position ds ys is.1)
 
 position-at : (ds xs : List ℕ) (k : ℕ) → IsPosition ds xs → k < length ds → get_or xs k 0 < get_or ds k 0
 position-at [] xs k is below = absurd (omega arith)

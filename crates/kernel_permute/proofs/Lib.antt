@@ -1,10 +1,11 @@
 pub mod ProductLemmas
 pub mod PositionsLemmas
 pub mod StridedLemmas
+pub mod RowsLemmas
 pub mod OrderLemmas
 pub mod PermutingLemmas
+pub mod PartsLemmas
 pub mod SlicingLemmas
 pub mod InsertingLemmas
-pub mod PartsLemmas
 pub mod PositionLaws
 pub mod LawsLemmas

@@ -1,15 +1,12 @@
 -- Lemmas on parts, put together dimension by dimension.
-use Rattle.std.proofs.Common.{◌≡◌, ℕ, ◌<◌, ◌≤◌, Bool, true, false, cond, List, [], ◌∷◌, ◌++◌, length, get_or, take, drop, ap, sym, ◌∙◌, refl, arith, append-nil}
-use Rattle.std.proofs.lemmas.List.{take_all, drop_all}
-use Rattle.kernel_permute.specs.declared.how.How.{How}
+use Rattle.std.proofs.Common.{◌≡◌, ℕ, ◌+◌, ◌-◌, ◌*◌, ◌/◌, ◌<◌, ◌≤◌, List, [], ◌∷◌, ◌++◌, length, take, drop, ap, sym, ◌∙◌, refl, arith, append-nil}
+use Rattle.std.proofs.Math.Nat.{mul-le-mul_right, mul-div_cancel_left, le-mul_of_pos_right, mul-pos}
+use Rattle.std.proofs.lemmas.List.{take_all, drop_all, length-drop, length-take-le}
 use Rattle.kernel_permute.specs.declared.part.Part.{Part}
-use Rattle.kernel_permute.specs.How.{combined}
-use Rattle.kernel_permute.specs.Inserting.{is_in_part, unshifted, put, inserted}
 use Rattle.kernel_permute.specs.Parts.{starts, sizes, dims_of}
-use Rattle.kernel_permute.specs.Positions.{product, place}
+use Rattle.kernel_permute.specs.Positions.{product}
 use Rattle.kernel_permute.specs.Slicing.{IsPart}
-use Rattle.kernel_permute.proofs.InsertingLemmas.{place_within}
-use Rattle.kernel_permute.proofs.PositionsLemmas.{each_number-kept}
+use Rattle.kernel_permute.proofs.ProductLemmas.{positive_left, positive_right}
 
 -- the parts with these starts, sizes and dimensions
 abbrev pub parts_with : List ℕ → List ℕ → List ℕ → List Part
@@ -49,17 +46,69 @@ parts_done parts ats zs ds k over long before =
     let none : parts_with (drop k ats) (drop k zs) (drop k ds) ≡ [] = ap (λ r. parts_with r (drop k zs) (drop k ds)) (drop_all k ats over) in
     sym (append-nil parts) ∙ (rw (whole, none) at before)
 
--- a part with no number changes nothing
-pub inserted_none : (how : How) (size from dims at old : List ℕ) → product size ≡ 0 → length old ≡ product dims → old ≡ inserted how size from dims at old
-inserted_none how size from dims at old none long = sym (each_number-kept (put how size from at) dims old (λ p x. outside p x (is_in_part at size p) refl) long)
-  where
-    outside : (p : List ℕ) (x : ℕ) (b : Bool) → is_in_part at size p ≡ b → cond b (combined how x (get_or from (place size (unshifted at p)) 0)) x ≡ x
-    outside p x false is = refl
-    outside p x true is = let within : place size (unshifted at p) < product size = place_within at size p is in absurd (omega arith)
+-- where a block is not empty, each of its parts begins in it
+pub positive_from_part : (at size dims : List ℕ) → IsPart at size dims → 0 < product size → 0 < product dims
+positive_from_part [] [] [] is some = omega arith
+positive_from_part (a ∷ ats) (z ∷ zs) (d ∷ ds) is some =
+    let here : 0 < z = positive_left z (product zs) some in
+    let wide : 0 < d = omega (arith, is.0) in
+    mul-pos wide (positive_from_part ats zs ds is.1 (positive_right z (product zs) some))
+positive_from_part [] [] (d ∷ ds) is some = absurd is
+positive_from_part [] (z ∷ zs) ds is some = absurd is
+positive_from_part (a ∷ ats) [] ds is some = absurd is
+positive_from_part (a ∷ ats) (z ∷ zs) [] is some = absurd is
 
--- what is put in by the parts is what is put in by their starts, sizes and dimensions
-pub inserted_with : (how : How) (size from dims at old : List ℕ) (parts : List Part) → IsPart at size dims → parts ≡ parts_with at size dims → inserted how (sizes parts) from (dims_of parts) (starts parts) old ≡ inserted how size from dims at old
-inserted_with how size from dims at old parts is made = rw (made, starts-parts_with at size dims is, sizes-parts_with at size dims is, dims_of-parts_with at size dims is) refl
+-- what is known of a part, once its first dimension is taken apart; the part has m numbers, the block n
+pub record FirstSplit (first : Part) (rest : List Part) (m n : ℕ) : Type 0 where
+  pub part : IsPart (starts rest) (sizes rest) (dims_of rest)
+  pub within : first.at + first.size ≤ first.dim
+  pub fits : first.at + first.size ≤ n
+  pub piece : m ≡ product (first.size ∷ sizes rest)
+  pub width : product (dims_of rest) ≡ n / first.dim
+  pub whole : n ≡ first.dim * (n / first.dim)
+  pub dim : 0 < first.dim
 
-pub part_with : (size dims at : List ℕ) (parts : List Part) → IsPart at size dims → parts ≡ parts_with at size dims → IsPart (starts parts) (sizes parts) (dims_of parts)
-part_with size dims at parts is made = rw (made, starts-parts_with at size dims is, sizes-parts_with at size dims is, dims_of-parts_with at size dims is) is
+pub first_split : (first : Part) (rest parts : List Part) (m n : ℕ) → parts ≡ first ∷ rest → IsPart (starts parts) (sizes parts) (dims_of parts) → m ≡ product (sizes parts) → n ≡ product (dims_of parts) → 0 < m → FirstSplit first rest m n
+first_split first rest parts m n split part piece whole some =
+    let all = rw split at part in
+    let piece_is : m ≡ first.size * product (sizes rest) = piece ∙ ap (λ p. product (sizes p)) split in
+    let whole_is : n ≡ first.dim * product (dims_of rest) = whole ∙ ap (λ p. product (dims_of p)) split in
+    let filled : 0 < product (sizes parts) = omega arith in
+    let wide : 0 < product (dims_of parts) = positive_from_part (starts parts) (sizes parts) (dims_of parts) part filled in
+    let both : 0 < first.dim * product (dims_of rest) = omega arith in
+    let dim : 0 < first.dim = positive_left first.dim (product (dims_of rest)) both in
+    let inner : 0 < product (dims_of rest) = positive_right first.dim (product (dims_of rest)) both in
+    let width : product (dims_of rest) ≡ n / first.dim = rw whole_is (sym (mul-div_cancel_left (product (dims_of rest)) dim)) in
+    let more : first.dim ≤ first.dim * product (dims_of rest) = le-mul_of_pos_right first.dim inner in
+    record {
+      part = all.1;
+      within = all.0;
+      fits = omega arith;
+      piece = piece_is;
+      width = width;
+      whole = whole_is ∙ ap (λ w. first.dim * w) width;
+      dim = dim;
+    }
+
+-- how many numbers lie in the rows of the part
+pub length-inner : (first : Part) (rest : List Part) (m : ℕ) (block : List ℕ) → FirstSplit first rest m (length block) → length (take ((first.at + first.size) * (length block / first.dim) - first.at * (length block / first.dim)) (drop (first.at * (length block / first.dim)) block)) ≡ first.size * product (dims_of rest)
+length-inner first rest m block known =
+    let w = length block / first.dim in
+    let k : (first.at + first.size) * w - first.at * w ≡ first.size * w = omega arith in
+    let upto : (first.at + first.size) * w ≤ first.dim * w = mul-le-mul_right w known.within in
+    let filled : length block ≡ first.dim * w = known.whole in
+    length-take-le ((first.at + first.size) * w - first.at * w) (drop (first.at * w) block) (omega (arith, length-drop (first.at * w) block)) ∙ k ∙ ap (λ v. first.size * v) (sym known.width)
+
+-- the numbers of one of so many rows
+pub row_of : (count n m : ℕ) → m ≡ count * n → 0 < m → n ≡ m / count
+row_of count n m is some =
+    let filled : 0 < count * n = omega arith in
+    let any : 0 < count = positive_left count n filled in
+    rw is (sym (mul-div_cancel_left n any))
+
+-- where the part is not empty, the block is not
+pub rows_some : (count : ℕ) (rest : List Part) (m n : ℕ) → IsPart (starts rest) (sizes rest) (dims_of rest) → m ≡ product (count ∷ sizes rest) → n ≡ product (count ∷ dims_of rest) → 0 < m → 0 < n
+rows_some count rest m n part piece whole some =
+    let filled : 0 < count * product (sizes rest) = omega arith in
+    let inner : 0 < product (dims_of rest) = positive_from_part (starts rest) (sizes rest) (dims_of rest) part (positive_right count (product (sizes rest)) filled) in
+    rw whole (mul-pos (positive_left count (product (sizes rest)) filled) inner)

@@ -1,14 +1,14 @@
 //! Parts of blocks put in.
 
-ghost use Rattle.std.specs.Prelude.{◌≡◌, ◌+◌, ◌*◌, ◌/◌, ◌≤◌, ◌<◌, [], ◌∷◌, length};
+ghost use Rattle.std.specs.Prelude.{◌≡◌, ◌+◌, ◌*◌, ◌≤◌, ◌<◌, [], ◌∷◌, length};
 ghost use Rattle.kernel_permute.specs.Inserting.{inserted};
 ghost use Rattle.kernel_permute.specs.Parts.{dims_of, sizes, starts};
 ghost use Rattle.kernel_permute.specs.Positions.{product};
 ghost use Rattle.kernel_permute.specs.Slicing.{IsPart};
 
 use crate::how::How;
-use crate::part::Part;
-use crate::strided::read_row;
+use crate::part::{Part, parts_of, row_size, row_width};
+use crate::rows::meet_row;
 
 /// The source becomes the part of the target that begins at `at`; the rest of the target stays.
 pub fn put_in<const R: usize>(
@@ -28,31 +28,8 @@ pub fn put_in<const R: usize>(
     if from.is_empty() {
         return;
     }
-    let mut parts = [Part {
-        at: 0,
-        size: 0,
-        dim: 0,
-    }; R];
-    for k in 0..R {
-        parts[k] = Part {
-            at: at[k] as usize,
-            size: size[k] as usize,
-            dim: dims[k] as usize,
-        };
-    }
+    let parts = parts_of(at, size, dims);
     insert(from, &parts, to, how);
-}
-
-// A row of the part.
-#[inline(always)]
-fn insert_row(from: &[u64], row: &Part, to: &mut [u64], how: How)
-    requires part { row.now.at + row.now.size ≤ row.now.dim }
-    requires from_length { length from.now ≡ row.now.size }
-    requires to_length { length to.old ≡ row.now.dim }
-    requires some { 0 < length from.now }
-    ensures value { to.new ≡ inserted how (row.now.size ∷ []) from.now (row.now.dim ∷ []) (row.now.at ∷ []) to.old }
-{
-    read_row(from, 0, 1, &mut to[row.at..row.at + row.size], how);
 }
 
 // A part that is not empty.
@@ -66,7 +43,7 @@ fn insert(from: &[u64], parts: &[Part], to: &mut [u64], how: How)
     ensures value { to.new ≡ inserted how (sizes parts.now) from.now (dims_of parts.now) (starts parts.now) to.old }
 {
     match parts {
-        [row] => insert_row(from, row, to, how),
+        [row] => insert_row(from, *row, to, how),
         _ => insert_block(from, parts, to, how),
     }
 }
@@ -86,15 +63,30 @@ fn insert_block(from: &[u64], parts: &[Part], to: &mut [u64], how: How)
         [first, rest @ ..] => {
             let width = row_width(first.dim, rest, to.len());
             let inner = &mut to[first.at * width..(first.at + first.size) * width];
-            insert_rows(from, first.size, rest, inner, how);
+            insert_within(from, first.size, rest, inner, how);
         }
     }
 }
 
-// Rows that all lie in the part, each with the same part of the row.
+// The same part of each of so many blocks.
 #[cycle(insertion)]
 #[inline(always)]
-fn insert_rows(from: &[u64], count: usize, rest: &[Part], to: &mut [u64], how: How)
+fn insert_within(from: &[u64], count: usize, rest: &[Part], to: &mut [u64], how: How)
+    requires part { IsPart (starts rest.now) (sizes rest.now) (dims_of rest.now) }
+    requires from_length { length from.now ≡ product (count ∷ sizes rest.now) }
+    requires to_length { length to.old ≡ product (count ∷ dims_of rest.now) }
+    requires some { 0 < length from.now }
+    ensures value { to.new ≡ inserted how (count ∷ sizes rest.now) from.now (count ∷ dims_of rest.now) (0 ∷ starts rest.now) to.old }
+{
+    match rest {
+        [row] => insert_rows(from, count, *row, to, how),
+        _ => insert_blocks(from, count, rest, to, how),
+    }
+}
+
+#[cycle(insertion)]
+#[inline(always)]
+fn insert_blocks(from: &[u64], count: usize, rest: &[Part], to: &mut [u64], how: How)
     requires part { IsPart (starts rest.now) (sizes rest.now) (dims_of rest.now) }
     requires from_length { length from.now ≡ product (count ∷ sizes rest.now) }
     requires to_length { length to.old ≡ product (count ∷ dims_of rest.now) }
@@ -113,29 +105,31 @@ fn insert_rows(from: &[u64], count: usize, rest: &[Part], to: &mut [u64], how: H
     }
 }
 
-// How many numbers of the source lie in each of so many rows. Where a row has one dimension this
-// takes no division, which would cost as much as a short row.
+// The same part of each of so many rows.
 #[inline(always)]
-fn row_size(count: usize, rest: &[Part], numbers: usize) -> usize
-    requires numbers { numbers ≡ count * product (sizes rest.now) }
-    requires some { 0 < numbers }
-    ensures { result ≡ numbers / count }
+fn insert_rows(from: &[u64], count: usize, row: Part, to: &mut [u64], how: How)
+    requires part { row.at + row.size ≤ row.dim }
+    requires from_length { length from.now ≡ count * row.size }
+    requires to_length { length to.old ≡ count * row.dim }
+    ensures value { to.new ≡ inserted how (count ∷ row.size ∷ []) from.now (count ∷ row.dim ∷ []) (0 ∷ row.at ∷ []) to.old }
 {
-    match rest {
-        [row] => row.size,
-        _ => numbers / count,
+    for i in 0..count {
+        insert_row(
+            &from[i * row.size..(i + 1) * row.size],
+            row,
+            &mut to[i * row.dim..(i + 1) * row.dim],
+            how,
+        );
     }
 }
 
-// The same of the target.
+// A row of the part.
 #[inline(always)]
-fn row_width(count: usize, rest: &[Part], numbers: usize) -> usize
-    requires numbers { numbers ≡ count * product (dims_of rest.now) }
-    requires some { 0 < numbers }
-    ensures { result ≡ numbers / count }
+fn insert_row(from: &[u64], row: Part, to: &mut [u64], how: How)
+    requires part { row.at + row.size ≤ row.dim }
+    requires from_length { length from.now ≡ row.size }
+    requires to_length { length to.old ≡ row.dim }
+    ensures value { to.new ≡ inserted how (row.size ∷ []) from.now (row.dim ∷ []) (row.at ∷ []) to.old }
 {
-    match rest {
-        [row] => row.dim,
-        _ => numbers / count,
-    }
+    meet_row(from, &mut to[row.at..row.at + row.size], how);
 }

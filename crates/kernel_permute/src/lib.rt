@@ -9,6 +9,7 @@ mod inserting;
 pub mod laws;
 mod part;
 mod permuting;
+mod rows;
 mod slicing;
 mod strided;
 mod strides;

@@ -7,9 +7,9 @@ ghost use Rattle.kernel_permute.specs.Strided.{lengths, met, reach, strides};
 use crate::axis::Axis;
 use crate::how::How;
 
-/// One row: each number of the target meets one of the source.
+// One row: each number of the target meets one of the source.
 #[inline(always)]
-pub fn read_row(from: &[u64], base: usize, stride: usize, to: &mut [u64], how: How)
+fn read_row(from: &[u64], base: usize, stride: usize, to: &mut [u64], how: How)
     requires within { base + (length to.old - 1) * stride < length from.now }
     ensures value { to.new ≡ each_number (met how from.now base (stride ∷ [])) (length to.old ∷ []) to.old }
 {
@@ -59,8 +59,8 @@ fn read_block(from: &[u64], base: usize, axes: &[Axis], to: &mut [u64], how: How
     }
 }
 
-// How many numbers of the target lie between two steps along the first axis: for rows told
-// without a division, which would cost as much as a short row.
+// How many numbers of the target lie between two steps along the first axis: where few axes follow,
+// told without a division, which would cost as much as a short row.
 #[inline(always)]
 fn row_width(first: &Axis, rest: &[Axis], count: usize) -> usize
     requires count { count ≡ first.now.len * product (lengths rest.now) }
@@ -69,6 +69,7 @@ fn row_width(first: &Axis, rest: &[Axis], count: usize) -> usize
 {
     match rest {
         [row] => row.len,
+        [rows, row] => rows.len * row.len,
         _ => count / first.len,
     }
 }

@@ -8,7 +8,7 @@ use kernel_permute::How;
 use std::io;
 use std::time::Instant;
 
-const CALLS: u32 = 10;
+const CALLS: u32 = 2;
 
 // the axes of a contraction of a block [i, j, k, l] with a block [k, l, m, n]
 #[derive(Drop)]

@@ -8,7 +8,7 @@ use std::alloc::AllocError;
 use std::io;
 use std::time::Instant;
 
-const CALLS: u32 = 50;
+const CALLS: u32 = 10;
 
 const LENGTH: usize = 65_536;
 

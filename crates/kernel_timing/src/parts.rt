@@ -10,17 +10,19 @@ use kernel_permute::{How, put_in, put_in_any, slice_out, slice_out_any};
 use std::io;
 use std::time::Instant;
 
-const CALLS: u32 = 500;
+const CALLS: u32 = 100;
 
-/// Times a slice and an insertion, each for a rank known when the program is built, and when it runs.
+/// Times slices and insertions, each for a rank known when the program is built, and when it runs.
 pub fn time(rt: &HostRuntime) -> io::Result<()> {
     let block = numbers(rt, 10_000, 1)?;
     let part = numbers(rt, 3024, 2)?;
-    time_slices(rt, &block)?;
-    time_insertions(rt, &part)
+    time_slices(rt, "slice", &block, How::Set)?;
+    time_slices(rt, "slice_added", &block, How::Add)?;
+    time_insertions(rt, "insertion", &part, How::Set)?;
+    time_insertions(rt, "insertion_added", &part, How::Add)
 }
 
-fn time_slices(rt: &HostRuntime, block: &[u64]) -> io::Result<()>
+fn time_slices(rt: &HostRuntime, case: &str, block: &[u64], how: How) -> io::Result<()>
     requires { length block.now ≡ 10000 }
 {
     let mut to = numbers(rt, 3024, 3)?;
@@ -32,8 +34,9 @@ fn time_slices(rt: &HostRuntime, block: &[u64]) -> io::Result<()>
         &[6, 7, 8, 9],
         &mut to,
         3024,
+        how,
     );
-    report(rt, "slice", "slice_out", start, CALLS, &to)?;
+    report(rt, case, "slice_out", start, CALLS, &to)?;
     let mut to = numbers(rt, 3024, 3)?;
     let start = Instant::now(rt)?;
     slices_any(
@@ -43,11 +46,12 @@ fn time_slices(rt: &HostRuntime, block: &[u64]) -> io::Result<()>
         &[6, 7, 8, 9, 0, 0],
         &mut to,
         3024,
+        how,
     );
-    report(rt, "slice", "slice_out_any", start, CALLS, &to)
+    report(rt, case, "slice_out_any", start, CALLS, &to)
 }
 
-fn time_insertions(rt: &HostRuntime, part: &[u64]) -> io::Result<()>
+fn time_insertions(rt: &HostRuntime, case: &str, part: &[u64], how: How) -> io::Result<()>
     requires { length part.now ≡ 3024 }
 {
     let mut to = numbers(rt, 10_000, 3)?;
@@ -59,8 +63,9 @@ fn time_insertions(rt: &HostRuntime, part: &[u64]) -> io::Result<()>
         &[10, 10, 10, 10],
         &[1, 2, 0, 1],
         10_000,
+        how,
     );
-    report(rt, "insertion", "put_in", start, CALLS, &to)?;
+    report(rt, case, "put_in", start, CALLS, &to)?;
     let mut to = numbers(rt, 10_000, 3)?;
     let start = Instant::now(rt)?;
     insertions_any(
@@ -70,8 +75,9 @@ fn time_insertions(rt: &HostRuntime, part: &[u64]) -> io::Result<()>
         &[10, 10, 10, 10, 0, 0],
         &[1, 2, 0, 1, 0, 0],
         10_000,
+        how,
     );
-    report(rt, "insertion", "put_in_any", start, CALLS, &to)
+    report(rt, case, "put_in_any", start, CALLS, &to)
 }
 
 #[inline(never)]
@@ -82,6 +88,7 @@ fn slices(
     size: &[u32; 4],
     to: &mut [u64],
     count: usize,
+    how: How,
 )
     requires part { IsPart at.now size.now dims.now }
     requires from_length { length from.now ≡ product dims.now }
@@ -89,7 +96,7 @@ fn slices(
 {
     for _ in 0..CALLS {
         if to.len() == count {
-            slice_out(from, dims, at, size, to, How::Set);
+            slice_out(from, dims, at, size, to, how);
         }
     }
 }
@@ -102,6 +109,7 @@ fn slices_any(
     size: &[u32; 6],
     to: &mut [u64],
     count: usize,
+    how: How,
 )
     requires part { IsPart (take 4 at.now) (take 4 size.now) (take 4 dims.now) }
     requires from_length { length from.now ≡ product (take 4 dims.now) }
@@ -109,7 +117,7 @@ fn slices_any(
 {
     for _ in 0..CALLS {
         if to.len() == count {
-            slice_out_any(4, from, dims, at, size, to, How::Set);
+            slice_out_any(4, from, dims, at, size, to, how);
         }
     }
 }
@@ -122,6 +130,7 @@ fn insertions(
     dims: &[u32; 4],
     at: &[u32; 4],
     count: usize,
+    how: How,
 )
     requires part { IsPart at.now size.now dims.now }
     requires from_length { length from.now ≡ product size.now }
@@ -129,7 +138,7 @@ fn insertions(
 {
     for _ in 0..CALLS {
         if to.len() == count {
-            put_in(from, size, to, dims, at, How::Set);
+            put_in(from, size, to, dims, at, how);
         }
     }
 }
@@ -142,6 +151,7 @@ fn insertions_any(
     dims: &[u32; 6],
     at: &[u32; 6],
     count: usize,
+    how: How,
 )
     requires part { IsPart (take 4 at.now) (take 4 size.now) (take 4 dims.now) }
     requires from_length { length from.now ≡ product (take 4 size.now) }
@@ -149,7 +159,7 @@ fn insertions_any(
 {
     for _ in 0..CALLS {
         if to.len() == count {
-            put_in_any(4, from, size, to, dims, at, How::Set);
+            put_in_any(4, from, size, to, dims, at, how);
         }
     }
 }

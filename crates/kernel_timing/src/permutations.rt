@@ -10,7 +10,7 @@ use kernel_permute::{How, permute, permute_any};
 use std::io;
 use std::time::Instant;
 
-const CALLS: u32 = 500;
+const CALLS: u32 = 100;
 
 /// Times each permutation for a rank known when the program is built, and when it runs.
 pub fn time(rt: &HostRuntime) -> io::Result<()> {

@@ -1,5 +1,5 @@
-use Rattle.std.proofs.Common.{length}
+use Rattle.std.proofs.Common.{◌+◌, length}
 use Rattle.kernel_contract.proofs.order.+is_nested.Given as goal
 
 abbrev pub decreases-is_nested : goal.decreases-is_nested
-decreases-is_nested l = length l.axes.now
+decreases-is_nested l = length l.first.now + length l.second.now

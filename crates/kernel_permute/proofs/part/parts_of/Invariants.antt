@@ -1,6 +1,6 @@
 use Rattle.std.proofs.Common.{◌≡◌, ◌++◌, take, drop, length}
 use Rattle.kernel_permute.proofs.PartsLemmas.{parts_with}
-use Rattle.kernel_permute.proofs.inserting.put_in.Given as goal
+use Rattle.kernel_permute.proofs.part.parts_of.Given as goal
 
 abbrev pub invariant-loop-k : goal.invariant-loop-k
 invariant-loop-k g l = record {
