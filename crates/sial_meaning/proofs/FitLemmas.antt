@@ -1,5 +1,5 @@
 -- Blocks that a statement names, where their indices are bound within their ranges: which block each is, and how long.
-use Rattle.std.proofs.Common.{◌≡◌, ℕ, ◌<◌, ◌⊎◌, inl, inr, List, [], ◌∷◌, ◌++◌, map, length, Bool, true, false, ◌==◌, ◌&&◌, ◌||◌, not, refl, sym, ap, ◌∙◌, eqb-true}
+use Rattle.std.proofs.Common.{◌≡◌, ℕ, ◌<◌, inl, inr, List, [], ◌∷◌, ◌++◌, map, length, Bool, true, false, ◌==◌, ◌&&◌, ◌||◌, not, refl, sym, ap, ◌∙◌, eqb-true}
 use Rattle.std.specs.Prelude.{flat_map}
 use Rattle.std.specs.List.{list_all, list_any}
 use Rattle.sial_syntax.specs.declared.array.ArrayKind.TheVariants.{Temp}
@@ -11,6 +11,7 @@ use Rattle.sial_syntax.specs.Resolved.{indices_within, slots_within}
 use Rattle.sial_syntax.specs.Shapes.{wrong_loop, wrong_where, wrong_dims, wrong_slots, wrong_array, wrong_form, wrong_rank, wrong_slot_rank, disagrees}
 use Rattle.sial_syntax.specs.Spaces.{extent, same_kind, rank_of, numbers_at}
 use Rattle.sial_syntax.specs.Visits.{Visit}
+use Rattle.sial_syntax.proofs.AmongLemmas.{Among, none_at, all_at}
 use Rattle.sial_syntax.proofs.RankLemmas.{rank-within, numbers-of-rank}
 use Rattle.sial_meaning.specs.Own.{Own, value_of, members_of, number_of}
 use Rattle.sial_meaning.specs.Setting.{Setting, array_kind, dims_of, block_count, block_words}
@@ -22,23 +23,6 @@ use Rattle.sial_meaning.proofs.PairLemmas.{never, first-holds, second-holds}
 use Rattle.sial_meaning.proofs.RangeLemmas.{InRange, array-whole, segments-named, members-named}
 use Rattle.sial_meaning.proofs.RestLemmasRules.{neither}
 use Rattle.sial_meaning.proofs.SegmentLemmas.{words-are}
-
--- a block is one of a list
-abbrev pub In : BlockRef → List BlockRef → Type 0
-In b [] = ⊥
-In b (x ∷ xs) = (x ≡ b) ⊎ In b xs
-
--- what holds of none of a list
-none-of : (f : BlockRef → Bool) (xs : List BlockRef) (b : BlockRef) → list_any f xs ≡ false → In b xs → f b ≡ false
-none-of f [] b none is = absurd is
-none-of f (x ∷ xs) b none (inl same) = ap f (sym same) ∙ (neither (f x) (list_any f xs) none).0
-none-of f (x ∷ xs) b none (inr rest) = none-of f xs b (neither (f x) (list_any f xs) none).1 rest
-
--- what holds of all of it
-all-of : (f : BlockRef → Bool) (xs : List BlockRef) (b : BlockRef) → list_all f xs ≡ true → In b xs → f b ≡ true
-all-of f [] b all is = absurd is
-all-of f (x ∷ xs) b all (inl same) = ap f (sym same) ∙ first-holds (f x) (list_all f xs) all
-all-of f (x ∷ xs) b all (inr rest) = all-of f xs b (second-holds (f x) (list_all f xs) all) rest
 
 -- the first part of a list of indices that all stand in another
 pub front-in : (xs ys bound : List ℕ) → all_in (xs ++ ys) bound ≡ true → (all_in xs bound ≡ true) × (all_in ys bound ≡ true)
@@ -52,9 +36,9 @@ front-in (x ∷ xs) ys bound all =
     made false b first second = absurd (never first)
 
 -- all indices of each block
-indices-in : (blocks : List BlockRef) (bound : List ℕ) (b : BlockRef) → all_in (flat_map (λ (b : BlockRef). b.at) blocks) bound ≡ true → In b blocks → all_in b.at bound ≡ true
+indices-in : (blocks : List BlockRef) (bound : List ℕ) (b : BlockRef) → all_in (flat_map (λ (b : BlockRef). b.at) blocks) bound ≡ true → Among b blocks → all_in b.at bound ≡ true
 indices-in [] bound b all is = absurd is
-indices-in (x ∷ xs) bound b all (inl same) = ap (λ (y : BlockRef). all_in y.at bound) (sym same) ∙ (front-in x.at (flat_map (λ (b : BlockRef). b.at) xs) bound all).0
+indices-in (x ∷ xs) bound b all (inl same) = ap (λ (y : BlockRef). all_in y.at bound) same ∙ (front-in x.at (flat_map (λ (b : BlockRef). b.at) xs) bound all).0
 indices-in (x ∷ xs) bound b all (inr rest) = indices-in xs bound b (front-in x.at (flat_map (λ (b : BlockRef). b.at) xs) bound all).1 rest
 
 -- what holds where its opposite fails
@@ -70,7 +54,7 @@ pub record Fit (g : Setting) (bound : List ℕ) (b : BlockRef) : Type 0 where
   pub within : indices_within g.spaces b.at (dims_of g b.array) ≡ true
 
 -- each block that a good statement names, whose blocks' indices are bound
-pub fit-named : (g : Setting) (v : Visit) (bound : List ℕ) (b : BlockRef) → Good g v → all_in (flat_map (λ (b : BlockRef). b.at) (blocks_named v.form)) bound ≡ true → In b (blocks_named v.form) → Fit g bound b
+pub fit-named : (g : Setting) (v : Visit) (bound : List ℕ) (b : BlockRef) → Good g v → all_in (flat_map (λ (b : BlockRef). b.at) (blocks_named v.form)) bound ≡ true → Among b (blocks_named v.form) → Fit g bound b
 fit-named g v bound b good used is =
     let p = g.program in
     let kinds = (neither (wrong_loop p v.form || wrong_where v.form) ((list_any (wrong_dims p) (blocks_named v.form) || wrong_slots p v.form) || (wrong_array p v.form || wrong_form v.form)) good.kind).1 in
@@ -79,9 +63,9 @@ fit-named g v bound b good used is =
     let inside = first-holds (list_all (λ (b : BlockRef). indices_within g.spaces b.at (array_in p b.array).dims) (blocks_named v.form)) (list_all (λ a. slots_within g.spaces (slots_named v.form) (array_in p a).dims) (slotted_array v.form)) good.within in
     record {
       used = indices-in (blocks_named v.form) bound b used is;
-      long = eqb-true (length b.at) (length (dims_of g b.array)) (holds-so (length b.at == length (dims_of g b.array)) (none-of (wrong_rank p) (blocks_named v.form) b ranks is));
-      fits = holds-so (fits_dims p b.at (dims_of g b.array)) (none-of (wrong_dims p) (blocks_named v.form) b dims is);
-      within = all-of (λ (b : BlockRef). indices_within g.spaces b.at (array_in p b.array).dims) (blocks_named v.form) b inside is;
+      long = eqb-true (length b.at) (length (dims_of g b.array)) (holds-so (length b.at == length (dims_of g b.array)) (none_at (wrong_rank p) b (blocks_named v.form) ranks is));
+      fits = holds-so (fits_dims p b.at (dims_of g b.array)) (none_at (wrong_dims p) b (blocks_named v.form) dims is);
+      within = all_at (λ (b : BlockRef). indices_within g.spaces b.at (array_in p b.array).dims) b (blocks_named v.form) inside is;
     }
 
 -- how many positions a named block has, by where its indices lie

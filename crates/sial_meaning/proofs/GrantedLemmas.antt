@@ -1,5 +1,5 @@
 -- What a sound setting gives of its copies: the rules, taken apart, and spaces that cut as the tree says.
-use Rattle.std.proofs.Common.{◌≡◌, ℕ, zero, suc, ◌+◌, ◌-◌, ◌<◌, List, [], ◌∷◌, ◌++◌, map, filter, length, slice_index_or, Bool, true, false, ◌==◌, ◌&&◌, ◌||◌, not, nat_lt, Option, Some, None, is_some, refl, sym, ap, ◌∙◌, eqb-true, arith}
+use Rattle.std.proofs.Common.{◌≡◌, ℕ, zero, suc, ◌+◌, ◌-◌, ◌<◌, List, [], ◌∷◌, map, filter, length, slice_index_or, Bool, true, false, ◌==◌, ◌&&◌, ◌||◌, not, nat_lt, Option, Some, None, is_some, refl, sym, ap, ◌∙◌, eqb-true, arith}
 use Rattle.std.specs.Prelude.{if◌then◌else◌, flat_map}
 use Rattle.std.specs.List.{Contains, list_any}
 use Rattle.sial_syntax.specs.declared.index.IndexDecl.{IndexDecl}
@@ -8,7 +8,6 @@ use Rattle.sial_syntax.specs.declared.index.Kind.TheVariants.{Index}
 use Rattle.sial_syntax.specs.declared.index.Range.{Range}
 use Rattle.sial_syntax.specs.declared.index.Range.TheVariants as range
 use Rattle.sial_syntax.specs.declared.index.Bound.TheVariants.{Number}
-use Rattle.sial_syntax.specs.declared.array.ArrayDecl.{ArrayDecl}
 use Rattle.sial_syntax.specs.declared.operand.BlockRef.{BlockRef}
 use Rattle.sial_syntax.specs.declared.operand.Op.{Op}
 use Rattle.sial_syntax.specs.declared.operand.Operand.TheVariants as operand
@@ -17,11 +16,10 @@ use Rattle.sial_syntax.specs.declared.operand.Target.TheVariants as target
 use Rattle.sial_syntax.specs.Agreeing.{has_twice, range_in, range_super, is_number, is_sub, is_sub_of, cuts_all, copy_agrees}
 use Rattle.sial_syntax.specs.Parts.{blocks_named, slots_named, slot_index}
 use Rattle.sial_syntax.specs.Resolved.{Constants, bound_number, segments_between, span_between, span_of_range}
-use Rattle.sial_syntax.specs.Shapes.{broken_at, shape_faults, declarations_broken, breaks_unbound, breaks_rebound, breaks_repeated, breaks_kind, breaks_indices, breaks_writable, index_breaks_kind, array_breaks_kind, cuts_sub, wrong_rank, wrong_slot_rank, disagrees}
-use Rattle.sial_syntax.specs.SideRules.{IsGranted}
+use Rattle.sial_syntax.specs.Shapes.{breaks_repeated, breaks_indices, index_breaks_kind, cuts_sub, wrong_rank, wrong_slot_rank, disagrees}
 use Rattle.sial_syntax.specs.Spaces.{Span, Segments, Pieces}
 use Rattle.sial_syntax.specs.Tree.{Tree, Plain, Assign}
-use Rattle.sial_syntax.specs.Visits.{Visit, all_visits}
+use Rattle.sial_syntax.specs.Visits.{all_visits}
 use Rattle.sial_meaning.specs.CopyLaws.{Copies}
 use Rattle.sial_meaning.specs.ReadBackLaws.{cuts_each, NoPartOfPart}
 use Rattle.sial_meaning.specs.Setting.{Setting}
@@ -29,36 +27,7 @@ use Rattle.sial_meaning.specs.Sight.{cuts, is_pieces_of}
 use Rattle.sial_meaning.specs.Sound.{IsSound}
 use Rattle.sial_meaning.proofs.PairLemmas.{never}
 use Rattle.sial_meaning.proofs.RestLemmasRules.{neither, kept_none}
-use Rattle.sial_syntax.proofs.AmongLemmas.{map_none, append_none}
-use Rattle.sial_syntax.proofs.GrantedLemmas.{fault_none}
-
--- the shape rules that copies rest on, each broken nowhere
-pub record Unbroken (p : Tree) : Type 0 where
-  pub repeated : filter (breaks_repeated p) (all_visits p) ≡ []
-  pub declared : filter (index_breaks_kind p) p.indices ≡ []
-  pub indices : filter (breaks_indices p) (all_visits p) ≡ []
-
--- a granted program breaks none of them
-pub rules-unbroken : (p : Tree) → IsGranted p → Unbroken p
-rules-unbroken p granted =
-    let a = broken_at 1 (breaks_unbound p) (all_visits p) in
-    let b = a ++ broken_at 2 (breaks_rebound p) (all_visits p) in
-    let c = b ++ broken_at 3 (breaks_repeated p) (all_visits p) in
-    let d = c ++ declarations_broken p in
-    let e = d ++ broken_at 4 (breaks_kind p) (all_visits p) in
-    let f = e ++ broken_at 5 (breaks_indices p) (all_visits p) in
-    let to_f = (append_none f (broken_at 6 (breaks_writable p) (all_visits p)) (fault_none (shape_faults p) granted.shapes)).0 in
-    let five = append_none e (broken_at 5 (breaks_indices p) (all_visits p)) to_f in
-    let to_d = (append_none d (broken_at 4 (breaks_kind p) (all_visits p)) five.0).0 in
-    let four = append_none c (declarations_broken p) to_d in
-    let three = (append_none b (broken_at 3 (breaks_repeated p) (all_visits p)) four.0).1 in
-    let of_indices = map (λ (i : IndexDecl). record { line = i.line; rule = 4 }) (filter (index_breaks_kind p) p.indices) in
-    let of_arrays = map (λ (a : ArrayDecl). record { line = a.line; rule = 4 }) (filter (array_breaks_kind p) p.arrays) in
-    record {
-      repeated = map_none (λ (v : Visit). record { line = v.line; rule = 3 }) (filter (breaks_repeated p) (all_visits p)) three;
-      declared = map_none (λ (i : IndexDecl). record { line = i.line; rule = 4 }) (filter (index_breaks_kind p) p.indices) (append_none of_indices of_arrays four.1).0;
-      indices = map_none (λ (v : Visit). record { line = v.line; rule = 5 }) (filter (breaks_indices p) (all_visits p)) five.1;
-    }
+use Rattle.sial_meaning.proofs.ShapeLemmas.{ShapesHold, shapes-hold}
 
 -- a test that keeps no entry fails at each
 fails-at : {X : Type 0} (f : X → Bool) (xs : List X) (k : ℕ) (x : X) → filter f xs ≡ [] → k < length xs → slice_index_or xs k x ≡ x → f x ≡ false
@@ -86,17 +55,17 @@ abbrev copy : BlockRef → Op → BlockRef → Plain
 copy to op from = Assign (target.Block to) op (One (operand.Block from))
 
 -- neither block of a copy names an index twice
-pub named-once : (p : Tree) (to : BlockRef) (op : Op) (from : BlockRef) → Unbroken p → Copies p to op from → (has_twice to.at ≡ false) × (has_twice from.at ≡ false)
-named-once p to op from unbroken (v, has, is) =
-    let none : repeats (copy to op from) ≡ false = ap repeats (sym is) ∙ fails-in (breaks_repeated p) (all_visits p) v unbroken.repeated has in
+pub named-once : (p : Tree) (to : BlockRef) (op : Op) (from : BlockRef) → ShapesHold p → Copies p to op from → (has_twice to.at ≡ false) × (has_twice from.at ≡ false)
+named-once p to op from hold (v, has, is) =
+    let none : repeats (copy to op from) ≡ false = ap repeats (sym is) ∙ fails-in (breaks_repeated p) (all_visits p) v hold.repeated has in
     let blocks = (neither (has_twice to.at || (has_twice from.at || false)) false none).0 in
     let first = neither (has_twice to.at) (has_twice from.at || false) blocks in
     (first.0, (neither (has_twice from.at) false first.1).0)
 
 -- a copy's indices agree
-pub copy-agrees : (p : Tree) (to : BlockRef) (op : Op) (from : BlockRef) → Unbroken p → Copies p to op from → copy_agrees p to.at from.at ≡ true
-copy-agrees p to op from unbroken (v, has, is) =
-    let none = fails-in (breaks_indices p) (all_visits p) v unbroken.indices has in
+pub copy-agrees : (p : Tree) (to : BlockRef) (op : Op) (from : BlockRef) → ShapesHold p → Copies p to op from → copy_agrees p to.at from.at ≡ true
+copy-agrees p to op from hold (v, has, is) =
+    let none = fails-in (breaks_indices p) (all_visits p) v hold.indices has in
     let rest = (neither (list_any (wrong_rank p) (blocks_named v.form)) (wrong_slot_rank p v.form || disagrees p v.form) none).1 in
     let agrees = (neither (wrong_slot_rank p v.form) (disagrees p v.form) rest).1 in
     holds (copy_agrees p to.at from.at) (ap (disagrees p) (sym is) ∙ agrees)
@@ -180,6 +149,6 @@ no-part-of-part g sound a b c first second =
     let p = g.program in
     let sub : is_sub_of p a b ≡ true = sym (cuts-as-said g sound a b) ∙ first in
     let under : is_sub_of p b c ≡ true = sym (cuts-as-said g sound b c) ∙ second in
-    let none : cuts_sub p (range_in p a) ≡ false = no-cut-sub p p.indices a (rules-unbroken p sound.setting.granted).declared in
+    let none : cuts_sub p (range_in p a) ≡ false = no-cut-sub p p.indices a (shapes-hold p sound.setting.granted).declared_indices in
     let not-sub : is_sub p b ≡ false = ap (cuts_sub p) (sym (declared-sub (range_in p a) b sub)) ∙ none in
     never (sym not-sub ∙ cutting-is-sub (range_in p b) c under)

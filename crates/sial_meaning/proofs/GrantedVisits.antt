@@ -1,21 +1,17 @@
 -- What the rules give of each statement where it stands, and of the indices that are bound there.
-use Rattle.std.proofs.Common.{◌≡◌, ℕ, zero, suc, List, [], ◌∷◌, ◌++◌, map, filter, flat_map, Bool, true, false, ◌&&◌, nat_le, slice_index_or, IsTrue}
+use Rattle.std.proofs.Common.{◌≡◌, ℕ, zero, suc, List, [], ◌∷◌, ◌++◌, filter, flat_map, Bool, true, false, ◌&&◌, nat_le, slice_index_or, IsTrue}
 use Rattle.std.specs.List.{list_all}
-use Rattle.sial_syntax.specs.declared.array.ArrayDecl.{ArrayDecl}
-use Rattle.sial_syntax.specs.declared.index.IndexDecl.{IndexDecl}
 use Rattle.sial_syntax.specs.Limits.{most_nesting, most_pardo}
 use Rattle.sial_syntax.specs.Names.{is_name}
 use Rattle.sial_syntax.specs.Proper.{IsProper, has_index, has_length, proper_body, proper_form, proper_cond, proper_depth, proper_procedure, body_nesting}
 use Rattle.sial_syntax.specs.Resolved.{statement_within}
-use Rattle.sial_syntax.specs.Shapes.{broken_at, shape_faults, declarations_broken, breaks_unbound, breaks_rebound, breaks_repeated, breaks_kind, breaks_indices, breaks_writable, index_breaks_kind, array_breaks_kind}
-use Rattle.sial_syntax.specs.SideRules.{IsGranted}
-use Rattle.sial_syntax.specs.Tree.{Tree, Procedure, Block, End, Then, Plain, Do, DoIn, Pardo, If, IfElse, Call, Assign, Get, Request, Put, Prepare, Create, Delete, Allocate, Deallocate, Collective, SipBarrier, ServerBarrier, Print, PrintScalar, Integrals}
+use Rattle.sial_syntax.specs.Shapes.{breaks_unbound, breaks_rebound, breaks_kind, breaks_indices, breaks_writable}
+use Rattle.sial_syntax.specs.Tree.{Procedure, Block, End, Then, Plain, Do, DoIn, Pardo, If, IfElse, Call, Assign, Get, Request, Put, Prepare, Create, Delete, Allocate, Deallocate, Collective, SipBarrier, ServerBarrier, Print, PrintScalar, Integrals}
 use Rattle.sial_syntax.specs.Visits.{Visit, visits, inner_visits, body_visits, all_visits}
 use Rattle.sial_meaning.specs.Setting.{Setting, procedure_body}
 use Rattle.sial_meaning.specs.Sound.{IsSound}
 use Rattle.sial_meaning.proofs.RestLemmasRules.{both, kept_none}
-use Rattle.sial_syntax.proofs.AmongLemmas.{map_none, append_none}
-use Rattle.sial_syntax.proofs.GrantedLemmas.{fault_none}
+use Rattle.sial_meaning.proofs.ShapeLemmas.{shapes-hold}
 
 -- a statement, where it stands, whose parts are there, that breaks no rule of shape, and whose indices lie within the declared ones
 pub record Good (g : Setting) (v : Visit) : Type 0 where
@@ -141,55 +137,10 @@ good-by : (g : Setting) (all : List Visit) → AllProper g all → Clear g all �
 good-by g [] proper clear = tt
 good-by g (v ∷ vs) proper clear = (clear-first g v vs proper.0 clear, good-by g vs proper.1 (clear-rest g v vs clear))
 
--- a granted program's declarations, none of which breaks a rule
-pub record Declared (p : Tree) : Type 0 where
-  pub indices : filter (index_breaks_kind p) p.indices ≡ []
-  pub arrays : filter (array_breaks_kind p) p.arrays ≡ []
-
--- what the shape rules leave
-record Rules (p : Tree) : Type 0 where
-  unbound : filter (breaks_unbound p) (all_visits p) ≡ []
-  rebound : filter (breaks_rebound p) (all_visits p) ≡ []
-  declared : Declared p
-  kind : filter (breaks_kind p) (all_visits p) ≡ []
-  indices : filter (breaks_indices p) (all_visits p) ≡ []
-  writable : filter (breaks_writable p) (all_visits p) ≡ []
-
-rules-of : (p : Tree) → IsGranted p → Rules p
-rules-of p granted =
-    let a = broken_at 1 (breaks_unbound p) (all_visits p) in
-    let b = a ++ broken_at 2 (breaks_rebound p) (all_visits p) in
-    let c = b ++ broken_at 3 (breaks_repeated p) (all_visits p) in
-    let d = c ++ declarations_broken p in
-    let e = d ++ broken_at 4 (breaks_kind p) (all_visits p) in
-    let f = e ++ broken_at 5 (breaks_indices p) (all_visits p) in
-    let six = append_none f (broken_at 6 (breaks_writable p) (all_visits p)) (fault_none (shape_faults p) granted.shapes) in
-    let five = append_none e (broken_at 5 (breaks_indices p) (all_visits p)) six.0 in
-    let kinds = append_none d (broken_at 4 (breaks_kind p) (all_visits p)) five.0 in
-    let declarations = append_none c (declarations_broken p) kinds.0 in
-    let two = append_none a (broken_at 2 (breaks_rebound p) (all_visits p)) (append_none b (broken_at 3 (breaks_repeated p) (all_visits p)) declarations.0).0 in
-    let of_indices = map (λ (i : IndexDecl). record { line = i.line; rule = 4 }) (filter (index_breaks_kind p) p.indices) in
-    let of_arrays = map (λ (a : ArrayDecl). record { line = a.line; rule = 4 }) (filter (array_breaks_kind p) p.arrays) in
-    let both_of = append_none of_indices of_arrays declarations.1 in
-    record {
-      unbound = map_none (λ (v : Visit). record { line = v.line; rule = 1 }) (filter (breaks_unbound p) (all_visits p)) two.0;
-      rebound = map_none (λ (v : Visit). record { line = v.line; rule = 2 }) (filter (breaks_rebound p) (all_visits p)) two.1;
-      declared = record {
-        indices = map_none (λ (i : IndexDecl). record { line = i.line; rule = 4 }) (filter (index_breaks_kind p) p.indices) both_of.0;
-        arrays = map_none (λ (a : ArrayDecl). record { line = a.line; rule = 4 }) (filter (array_breaks_kind p) p.arrays) both_of.1;
-      };
-      kind = map_none (λ (v : Visit). record { line = v.line; rule = 4 }) (filter (breaks_kind p) (all_visits p)) kinds.1;
-      indices = map_none (λ (v : Visit). record { line = v.line; rule = 5 }) (filter (breaks_indices p) (all_visits p)) five.1;
-      writable = map_none (λ (v : Visit). record { line = v.line; rule = 6 }) (filter (breaks_writable p) (all_visits p)) six.1;
-    }
-
-pub declared-granted : (p : Tree) → IsGranted p → Declared p
-declared-granted p granted = (rules-of p granted).declared
-
 -- all statements of a sound setting are good
 pub all-good : (g : Setting) → IsSound g → AllGood g (all_visits g.program)
 all-good g sound =
-    let rules = rules-of g.program sound.setting.granted in
+    let rules = shapes-hold g.program sound.setting.granted in
     good-by g (all_visits g.program) (proper-all g sound.setting.proper)
     (record { unbound = rules.unbound; rebound = rules.rebound; kind = rules.kind; indices = rules.indices; writable = rules.writable; within = sound.spaces.1.within })
 

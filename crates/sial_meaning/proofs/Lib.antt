@@ -7,6 +7,7 @@ pub mod RestLemmas
 pub mod RestLemmasBound
 pub mod RestLemmasFold
 pub mod RestLemmasKept
+pub mod ShapeLemmas
 pub mod RestLemmasRules
 pub mod RestLemmasTurns
 pub mod SoundLemmas

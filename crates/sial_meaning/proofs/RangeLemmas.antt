@@ -22,7 +22,7 @@ use Rattle.sial_meaning.specs.Setting.{Setting, array_kind, dims_of}
 use Rattle.sial_meaning.specs.Sound.{IsSound}
 use Rattle.sial_meaning.specs.Whole.{extents_of, member_extent, held_extents}
 use Rattle.sial_meaning.proofs.GrantedLemmas.{one-some, same-first, same-rest}
-use Rattle.sial_meaning.proofs.GrantedVisits.{declared-granted}
+use Rattle.sial_meaning.proofs.ShapeLemmas.{shapes-hold}
 use Rattle.sial_meaning.proofs.PairLemmas.{never, first-holds, second-holds}
 use Rattle.sial_meaning.proofs.PlaceLemmas.{either-holds}
 use Rattle.sial_meaning.proofs.RestLemmasRules.{neither, kept_none}
@@ -229,7 +229,7 @@ none-cut g sound (d ∷ ds) none =
 -- an array that isn't temp is cut nowhere
 pub array-whole : (g : Setting) → IsSound g → (a : ℕ) → same_kind (array_kind g a) Temp ≡ false → AllWhole g (dims_of g a)
 array-whole g sound a other =
-    elim (whole-dims g.program g.program.arrays a (declared-granted g.program sound.setting.granted).arrays) as (λ q. AllWhole g (dims_of g a)) [
+    elim (whole-dims g.program g.program.arrays a (shapes-hold g.program sound.setting.granted).declared_arrays) as (λ q. AllWhole g (dims_of g a)) [
       | inl temp ↦ absurd (never (sym other ∙ temp))
       | inr none ↦ none-cut g sound (dims_of g a) none
     ]

@@ -1,14 +1,14 @@
 -- What the rules give of the statements of a proper program.
 use Rattle.std.proofs.Common.{◌≡◌, ℕ, zero, suc, List, [], ◌∷◌, ◌++◌, filter, flat_map, Bool, true, false, cond, ◌&&◌, ◌||◌, slice_index_or, refl, sym, ◌∙◌, IsTrue}
 use Rattle.std.proofs.lemmas.List.Elements.{filter-append}
-use Rattle.sial_syntax.proofs.AmongLemmas.{Among, filter_none, map_none, append_none}
+use Rattle.sial_syntax.proofs.AmongLemmas.{Among, filter_none, append_none}
 use Rattle.sial_syntax.proofs.CallLemmas.{no_procedure}
 use Rattle.sial_syntax.proofs.DepthLemmas.{procedure_there, body_there}
-use Rattle.sial_syntax.proofs.GrantedLemmas.{fault_none}
+use Rattle.sial_meaning.proofs.ShapeLemmas.{shapes-hold}
 use Rattle.sial_syntax.specs.Agreeing.{contains, share_any, has_twice}
 use Rattle.sial_syntax.specs.Parts.{indices_bound}
 use Rattle.sial_syntax.specs.Proper.{IsProper, proper_body}
-use Rattle.sial_syntax.specs.Shapes.{broken_at, shape_faults, declarations_broken, breaks_unbound, breaks_rebound, breaks_repeated, breaks_kind, breaks_indices, breaks_writable}
+use Rattle.sial_syntax.specs.Shapes.{breaks_rebound, breaks_kind}
 use Rattle.sial_syntax.specs.SideRules.{IsGranted}
 use Rattle.sial_syntax.specs.Tree.{Tree, Procedure, Block}
 use Rattle.sial_syntax.specs.Visits.{Visit, visits, body_visits, all_visits}
@@ -57,34 +57,11 @@ unbound_one bound index indices e = neither (contains bound index) (share_any in
 
 -- a granted program binds no bound index again
 pub granted_unbroken : (p : Tree) → IsGranted p → Unbroken p (all_visits p)
-granted_unbroken p granted =
-    let a = broken_at 1 (breaks_unbound p) (all_visits p) in
-    let b = a ++ broken_at 2 (breaks_rebound p) (all_visits p) in
-    let c = b ++ broken_at 3 (breaks_repeated p) (all_visits p) in
-    let d = c ++ declarations_broken p in
-    let e = d ++ broken_at 4 (breaks_kind p) (all_visits p) in
-    let f = e ++ broken_at 5 (breaks_indices p) (all_visits p) in
-    let to_f = (append_none f (broken_at 6 (breaks_writable p) (all_visits p)) (fault_none (shape_faults p) granted.shapes)).0 in
-    let to_e = (append_none e (broken_at 5 (breaks_indices p) (all_visits p)) to_f).0 in
-    let to_d = (append_none d (broken_at 4 (breaks_kind p) (all_visits p)) to_e).0 in
-    let to_c = (append_none c (declarations_broken p) to_d).0 in
-    let to_b = (append_none b (broken_at 3 (breaks_repeated p) (all_visits p)) to_c).0 in
-    let second = (append_none a (broken_at 2 (breaks_rebound p) (all_visits p)) to_b).1 in
-    map_none (λ (v : Visit). record { line = v.line; rule = 2 }) (filter (breaks_rebound p) (all_visits p)) second
+granted_unbroken p granted = (shapes-hold p granted).rebound
 
 -- a granted program has no index, array or operand of a kind that may not stand there
 pub granted_kinds : (p : Tree) → IsGranted p → (v : Visit) → Among v (all_visits p) → breaks_kind p v ≡ false
-granted_kinds p granted v m =
-    let a = broken_at 1 (breaks_unbound p) (all_visits p) in
-    let b = a ++ broken_at 2 (breaks_rebound p) (all_visits p) in
-    let c = b ++ broken_at 3 (breaks_repeated p) (all_visits p) in
-    let d = c ++ declarations_broken p in
-    let e = d ++ broken_at 4 (breaks_kind p) (all_visits p) in
-    let f = e ++ broken_at 5 (breaks_indices p) (all_visits p) in
-    let to_f = (append_none f (broken_at 6 (breaks_writable p) (all_visits p)) (fault_none (shape_faults p) granted.shapes)).0 in
-    let to_e = (append_none e (broken_at 5 (breaks_indices p) (all_visits p)) to_f).0 in
-    let fourth = (append_none d (broken_at 4 (breaks_kind p) (all_visits p)) to_e).1 in
-    filter_none (breaks_kind p) v (all_visits p) (map_none (λ (w : Visit). record { line = w.line; rule = 4 }) (filter (breaks_kind p) (all_visits p)) fourth) m
+granted_kinds p granted v m = filter_none (breaks_kind p) v (all_visits p) (shapes-hold p granted).kind m
 
 -- each procedure's statements are among all
 procedure_unbroken : (p : Tree) (procedures : List Procedure) (number : ℕ) → Unbroken p (flat_map (λ (q : Procedure). body_visits q.body) procedures) → Unbroken p (body_visits (slice_index_or procedures number no_procedure).body)

@@ -24,8 +24,8 @@ use Rattle.sial_meaning.proofs.PlaceLemmas.{either-holds, or-left, or-right}
 use Rattle.sial_meaning.proofs.RangeLemmas.{InSpan, InRange}
 
 -- these indices are among those
-abbrev pub Among : List ℕ → List ℕ → Type 0
-Among some all = (i : ℕ) → contains some i ≡ true → contains all i ≡ true
+abbrev pub AllAmong : List ℕ → List ℕ → Type 0
+AllAmong some all = (i : ℕ) → contains some i ≡ true → contains all i ≡ true
 
 -- an index has a number that its loop may go on to, up to the last
 abbrev pub EndsIn : Span → (last : ℕ) → Type 0
@@ -38,12 +38,12 @@ GoodRest g indices (Over at) = Unit {0}
 GoodRest g indices (Next at line form rest) =
     (within : Bool) × Good g (record { line = line; form = form; bound = indices; within = within }) × AllGood g (inner_visits indices within form) × GoodRest g indices rest
 GoodRest g indices (Turn at head index last body rest) =
-    (outer : List ℕ) × (within : Bool) × Among (index ∷ outer) indices × (contains outer index ≡ false) × IsTrue (has_index g.program index) × EndsIn (span_of g.spaces index) last
+    (outer : List ℕ) × (within : Bool) × AllAmong (index ∷ outer) indices × (contains outer index ≡ false) × IsTrue (has_index g.program index) × EndsIn (span_of g.spaces index) last
     × AllGood g (visits (index ∷ outer) within body) × GoodRest g outer rest
 GoodRest g indices (Join at rest) = GoodRest g indices rest
 GoodRest g indices (Back at values rest) = (inner : List ℕ) × (length values ≡ length g.program.indices) × InRange g inner values × GoodRest g inner rest
 GoodRest g indices (Within at head over wheres body number rest) =
-    (outer : List ℕ) × Among outer indices × (share_any over outer ≡ false) × (has_twice over ≡ false) × IsTrue (list_all (has_index g.program) over) × AllGood g (visits (over ++ outer) true body) × GoodRest g outer rest
+    (outer : List ℕ) × AllAmong outer indices × (share_any over outer ≡ false) × (has_twice over ≡ false) × IsTrue (list_all (has_index g.program) over) × AllGood g (visits (over ++ outer) true body) × GoodRest g outer rest
 
 -- work in a whole state, its indices bound within their ranges
 pub record GoodWork (g : Setting) (rest : Rest) (s : State) : Type 0 where
@@ -83,7 +83,7 @@ others-stay g indices values index k out in-range i has =
     (in-range i has)
 
 -- fewer indices
-pub fewer : (g : Setting) (some all values : List ℕ) → Among some all → InRange g all values → InRange g some values
+pub fewer : (g : Setting) (some all values : List ℕ) → AllAmong some all → InRange g all values → InRange g some values
 fewer g some all values among in-range i has = in-range i (among i has)
 
 -- one index bound within its range, beside others
@@ -141,7 +141,7 @@ entered-good g at head index first (suc n) body rest s indices within in-range g
 
 -- the end of a loop's body
 pub turned-good : (g : Setting) (more : Bool) (at head index last : ℕ) (body : Block) (rest : Rest) (s : State) (indices outer : List ℕ) (within : Bool) → nat_lt (value_of s.own index) last ≡ more → InRange g indices s.own.values → IsWhole g s
-    → Among (index ∷ outer) indices → contains outer index ≡ false → IsTrue (has_index g.program index) → EndsIn (span_of g.spaces index) last → AllGood g (visits (index ∷ outer) within body) → GoodRest g outer rest
+    → AllAmong (index ∷ outer) indices → contains outer index ≡ false → IsTrue (has_index g.program index) → EndsIn (span_of g.spaces index) last → AllGood g (visits (index ∷ outer) within body) → GoodRest g outer rest
     → GoodAt g (turned more at head index last body rest s)
 turned-good g true at head index last body rest s indices outer within is in-range whole among out has ends all good =
     let v = value_of s.own index in

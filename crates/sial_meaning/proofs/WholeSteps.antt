@@ -34,7 +34,7 @@ use Rattle.sial_meaning.proofs.RestLemmasRules.{both, neither}
 use Rattle.sial_meaning.proofs.WholeCreated.{statement-whole}
 use Rattle.sial_meaning.proofs.WholeStart.{start-whole}
 use Rattle.sial_meaning.proofs.WholeStatements.{WholeTo}
-use Rattle.sial_meaning.proofs.WholeRest.{Among, EndsIn, GoodRest, GoodWork, GoodAt, good-pushed, values-whole, fewer, first-in, last-in, entered-good, turned-good, branched-good, called-good}
+use Rattle.sial_meaning.proofs.WholeRest.{AllAmong, EndsIn, GoodRest, GoodWork, GoodAt, good-pushed, values-whole, fewer, first-in, last-in, entered-good, turned-good, branched-good, called-good}
 use Rattle.sial_meaning.proofs.WholeBound.{unset-whole, bound-whole, bound-others, tuple-bound}
 
 -- a number of a box taken up, where its `where` lines hold or not
@@ -47,7 +47,7 @@ begun-good g true at head over wheres body number rest s outer in-range whole ou
   whole = whole;
 }
   where
-    among-behind : (xs ys : List ℕ) → Among ys (xs ++ ys)
+    among-behind : (xs ys : List ℕ) → AllAmong ys (xs ++ ys)
     among-behind [] ys i has = has
     among-behind (x ∷ xs) ys i has = or-right (x == i) (contains (xs ++ ys) i) (among-behind xs ys i has)
 begun-good g false at head over wheres body number rest s outer in-range whole out once has all good = record {
@@ -57,7 +57,7 @@ begun-good g false at head over wheres body number rest s outer in-range whole o
   whole = whole;
 }
   where
-    among-behind : (xs ys : List ℕ) → Among ys (xs ++ ys)
+    among-behind : (xs ys : List ℕ) → AllAmong ys (xs ++ ys)
     among-behind [] ys i has = has
     among-behind (x ∷ xs) ys i has = or-right (x == i) (contains (xs ++ ys) i) (among-behind xs ys i has)
 
