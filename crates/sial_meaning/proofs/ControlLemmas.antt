@@ -23,8 +23,8 @@ get_each : {X : Type 0} (n : ℕ) (f : ℕ → X) (i : ℕ) (d : X) → i < n �
 get_each n f i d below = get_numbers f 0 n i d below ∙ ap f (omega arith)
 
 -- there are as many entries
-length_each : {X : Type 0} (n : ℕ) (f : ℕ → X) → length (for_each n f) ≡ n
-length_each n f = length-map (numbers_from 0 n) f ∙ numbers-length 0 n
+pub each-long : {X : Type 0} (n : ℕ) (f : ℕ → X) → length (for_each n f) ≡ n
+each-long n f = length-map (numbers_from 0 n) f ∙ numbers-length 0 n
 
 -- each entry changed by its number
 abbrev changed : {X : Type 0} → (ℕ → X → X) → X → List X → List X
@@ -52,7 +52,7 @@ changed_set {X = X} h d xs i y same =
 -- entries changed twice
 changed_again : {X : Type 0} (h : ℕ → X → X) (d : X) (xs : List X) → ((k : ℕ) (x : X) → h k (h k x) ≡ h k x) → changed h d (changed h d xs) ≡ changed h d xs
 changed_again h d xs again =
-    ap (λ n. for_each n (λ k. h k (get_or (changed h d xs) k d))) (length_each (length xs) (λ k. h k (get_or xs k d)))
+    ap (λ n. for_each n (λ k. h k (get_or (changed h d xs) k d))) (each-long (length xs) (λ k. h k (get_or xs k d)))
     ∙ map-from
     (λ k. h k (get_or (changed h d xs) k d))
     (λ k. h k (get_or xs k d))

@@ -1,5 +1,5 @@
 -- Where statements stand in a granted program: those within pardos are calm, and the procedures that they call too.
-use Rattle.std.proofs.Common.{◌≡◌, ℕ, zero, suc, ◌+◌, ◌<◌, List, [], ◌∷◌, ◌++◌, flat_map, Bool, true, false, ◌&&◌, ◌||◌, length, slice_index_or, nat_lt, refl, sym, ap, ◌∙◌, subst, arith, ⊎_elim, IsTrue}
+use Rattle.std.proofs.Common.{◌≡◌, ℕ, zero, suc, ◌+◌, ◌<◌, List, [], ◌∷◌, ◌++◌, flat_map, Bool, true, false, ◌||◌, length, slice_index_or, nat_lt, refl, sym, ap, ◌∙◌, subst, arith, ⊎_elim, IsTrue}
 use Rattle.std.specs.List.{list_any}
 use Rattle.std.proofs.lemmas.Bool.{and_parts, or_parts, or_left, or_right, not-false, ltb-true}
 use Rattle.sial_syntax.proofs.AmongLemmas.{Among, among_left, among_right, among_either, among_flat, among_get, all_at, none_at}
@@ -28,11 +28,7 @@ use Rattle.sial_meaning.specs.Sound.{IsGrantedSetting}
 use Rattle.sial_meaning.specs.Setting.{Setting, array_kind, no_array, procedure_body}
 use Rattle.sial_meaning.proofs.ControlLemmasStatement.{Calm}
 use Rattle.sial_meaning.proofs.RestLemmasRules.{granted_kinds}
-
--- the second of two tests fails where the first passes
-second_fails : (a b : Bool) → a ≡ true → (a && b) ≡ false → b ≡ false
-second_fails true b e f = f
-second_fails false b e f = absurd cc
+use Rattle.sial_meaning.proofs.PairLemmas.{second-fails}
 
 -- the scalars that a proper statement writes are there
 written_there : (p : Tree) (form : Plain) → IsTrue (proper_form p form) → (scalar : ℕ) → Among scalar (scalars_written form) → scalar < length p.scalars
@@ -120,10 +116,10 @@ module _ (g : Setting) (set : IsGrantedSetting g) where
   calm_at s v m all there within =
       let grants = granted_at g.program set.granted (placed s v) m in
       record {
-        pardo = second_fails (is_inner (placed s v)) (is_pardo v.form) within grants.pardo;
-        sync = second_fails (is_inner (placed s v)) (is_sync v.form) within grants.sync;
-        print = second_fails (is_inner (placed s v)) (is_print v.form) within grants.print;
-        static = second_fails (is_inner (placed s v)) (list_any (has_kind g.program Static) (arrays_written v.form)) within grants.static;
+        pardo = second-fails (is_inner (placed s v)) (is_pardo v.form) within grants.pardo;
+        sync = second-fails (is_inner (placed s v)) (is_sync v.form) within grants.sync;
+        print = second-fails (is_inner (placed s v)) (is_print v.form) within grants.print;
+        static = second-fails (is_inner (placed s v)) (list_any (has_kind g.program Static) (arrays_written v.form)) within grants.static;
         scalars = λ scalar written same.
             written_class
             g.program

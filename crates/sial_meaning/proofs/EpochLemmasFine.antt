@@ -1,5 +1,5 @@
 -- A block that no write has touched in the present epoch is as it stood when the epoch began.
-use Rattle.std.proofs.Common.{◌≡◌, ℕ, List, [], ◌∷◌, Bool, true, false, not, ◌&&◌, eqb, T, ◌≢◌, refl, sym, ap, ◌∙◌, IsTrue}
+use Rattle.std.proofs.Common.{◌≡◌, ℕ, List, [], ◌∷◌, Bool, true, false, not, ◌&&◌, eqb, ◌≢◌, refl, sym, ap, ◌∙◌, IsTrue}
 use Rattle.std.specs.List.{list_any}
 use Rattle.std.proofs.Math.Dec.{eqb_refl}
 use Rattle.std.proofs.lemmas.List.{get_or-set_other}
@@ -15,6 +15,7 @@ use Rattle.sial_meaning.specs.Setting.{Setting}
 use Rattle.sial_meaning.specs.State.{Shared, Epochs, State, epoch_of, shared_block, with_block, accessed_words, logged, epoch_ended, start_state}
 use Rattle.sial_meaning.specs.Statement.{Outcome, Went, Stopped, Named, named, reads_logged, stored, created, deleted}
 use Rattle.sial_meaning.proofs.RestLemmasRules.{neither}
+use Rattle.sial_meaning.proofs.PairLemmas.{true-of, second-fails}
 
 -- a read of a block in the present epoch
 abbrev pub read_now : State → Class → (block : ℕ) → Touch
@@ -60,16 +61,6 @@ fine_reads g line (b ∷ bs) s fine =
     (logged s (named g s.own b).class (named g s.own b).block Read line)
     (fine_logged s (named g s.own b).class (named g s.own b).block Read line fine)
 
--- a test that passes
-true_of : (b : Bool) → T b → b ≡ true
-true_of true t = refl
-true_of false t = absurd t
-
--- the second of two tests fails where the first passes
-and_second : (a b : Bool) → a ≡ true → (a && b) ≡ false → b ≡ false
-and_second true b e f = f
-and_second false b e f = absurd cc
-
 -- the first of two tests fails where the second passes
 and_first : (a b : Bool) → b ≡ true → (a && b) ≡ false → a ≡ false
 and_first true b e f = absurd cc
@@ -77,7 +68,7 @@ and_first false b e f = refl
 
 -- numbers that are not the same
 apart : (b block : ℕ) → eqb b block ≡ false → b ≢ block
-apart b block f e = let t : eqb b block ≡ true = ap (λ n. eqb n block) e ∙ true_of (eqb block block) (eqb_refl block) in absurd cc
+apart b block f e = let t : eqb b block ≡ true = ap (λ n. eqb n block) e ∙ true-of (eqb block block) (eqb_refl block) in absurd cc
 
 -- a write leaves other blocks
 stored_apart : (shared : Shared) (epochs : Epochs) (class c : Class) (block b : ℕ) (words : List ℕ) → (same_class c class && (eqb (epoch_of epochs c) (epoch_of epochs class) && eqb b block)) ≡ false → shared_block (with_block shared class block words) c b ≡ shared_block shared c b
@@ -88,7 +79,7 @@ stored_apart shared epochs Distributed Distributed block b words e =
     b
     words
     []
-    (apart b block (and_second (eqb epochs.distributed epochs.distributed) (eqb b block) (true_of (eqb epochs.distributed epochs.distributed) (eqb_refl epochs.distributed)) e))
+    (apart b block (second-fails (eqb epochs.distributed epochs.distributed) (eqb b block) (true-of (eqb epochs.distributed epochs.distributed) (eqb_refl epochs.distributed)) e))
 stored_apart shared epochs Distributed Served block b words e = refl
 stored_apart shared epochs Served Distributed block b words e = refl
 stored_apart shared epochs Served Served block b words e =
@@ -98,7 +89,7 @@ stored_apart shared epochs Served Served block b words e =
     b
     words
     []
-    (apart b block (and_second (eqb epochs.served epochs.served) (eqb b block) (true_of (eqb epochs.served epochs.served) (eqb_refl epochs.served)) e))
+    (apart b block (second-fails (eqb epochs.served epochs.served) (eqb b block) (true-of (eqb epochs.served epochs.served) (eqb_refl epochs.served)) e))
 
 -- no read stands behind a write
 write_refuses : (how : Access) → IsTrue (is_write how) → not (may_stand how Read) ≡ true

@@ -1,5 +1,5 @@
 -- Blocks that a statement names, where their indices are bound within their ranges: which block each is, and how long.
-use Rattle.std.proofs.Common.{◌≡◌, ℕ, ◌<◌, inl, inr, List, [], ◌∷◌, ◌++◌, map, length, Bool, true, false, ◌==◌, ◌&&◌, ◌||◌, not, refl, sym, ap, ◌∙◌, eqb-true}
+use Rattle.std.proofs.Common.{◌≡◌, ℕ, ◌<◌, inl, inr, List, [], ◌∷◌, ◌++◌, map, length, Bool, true, false, ◌==◌, ◌&&◌, ◌||◌, refl, sym, ap, ◌∙◌, eqb-true}
 use Rattle.std.specs.Prelude.{flat_map}
 use Rattle.std.specs.List.{list_all, list_any}
 use Rattle.sial_syntax.specs.declared.array.ArrayKind.TheVariants.{Temp}
@@ -19,7 +19,7 @@ use Rattle.sial_meaning.specs.Sight.{lengths}
 use Rattle.sial_meaning.specs.Sound.{IsSound}
 use Rattle.sial_meaning.specs.Whole.{extents_of, held_extents}
 use Rattle.sial_meaning.proofs.GrantedVisits.{Good}
-use Rattle.sial_meaning.proofs.PairLemmas.{never, first-holds, second-holds}
+use Rattle.sial_meaning.proofs.PairLemmas.{never, first-holds, second-holds, holds-so}
 use Rattle.sial_meaning.proofs.RangeLemmas.{InRange, array-whole, segments-named, members-named}
 use Rattle.sial_meaning.proofs.RestLemmasRules.{neither}
 use Rattle.sial_meaning.proofs.SegmentLemmas.{words-are}
@@ -40,11 +40,6 @@ indices-in : (blocks : List BlockRef) (bound : List ℕ) (b : BlockRef) → all_
 indices-in [] bound b all is = absurd is
 indices-in (x ∷ xs) bound b all (inl same) = ap (λ (y : BlockRef). all_in y.at bound) same ∙ (front-in x.at (flat_map (λ (b : BlockRef). b.at) xs) bound all).0
 indices-in (x ∷ xs) bound b all (inr rest) = indices-in xs bound b (front-in x.at (flat_map (λ (b : BlockRef). b.at) xs) bound all).1 rest
-
--- what holds where its opposite fails
-pub holds-so : (b : Bool) → not b ≡ false → b ≡ true
-holds-so true is = refl
-holds-so false is = absurd (never (sym is))
 
 -- a block whose indices are bound and may stand where the array declares others
 pub record Fit (g : Setting) (bound : List ℕ) (b : BlockRef) : Type 0 where

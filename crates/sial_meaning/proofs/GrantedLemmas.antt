@@ -1,5 +1,5 @@
 -- What a sound setting gives of its copies: the rules, taken apart, and spaces that cut as the tree says.
-use Rattle.std.proofs.Common.{◌≡◌, ℕ, zero, suc, ◌+◌, ◌-◌, ◌<◌, List, [], ◌∷◌, map, filter, length, slice_index_or, Bool, true, false, ◌==◌, ◌&&◌, ◌||◌, not, nat_lt, Option, Some, None, is_some, refl, sym, ap, ◌∙◌, eqb-true, arith}
+use Rattle.std.proofs.Common.{◌≡◌, ℕ, zero, suc, ◌+◌, ◌-◌, ◌<◌, List, [], ◌∷◌, map, filter, length, slice_index_or, Bool, true, false, ◌==◌, ◌&&◌, ◌||◌, nat_lt, Option, Some, None, is_some, refl, sym, ap, ◌∙◌, eqb-true, arith}
 use Rattle.std.specs.Prelude.{if◌then◌else◌, flat_map}
 use Rattle.std.specs.List.{Contains, list_any}
 use Rattle.sial_syntax.specs.declared.index.IndexDecl.{IndexDecl}
@@ -25,7 +25,7 @@ use Rattle.sial_meaning.specs.ReadBackLaws.{cuts_each, NoPartOfPart}
 use Rattle.sial_meaning.specs.Setting.{Setting}
 use Rattle.sial_meaning.specs.Sight.{cuts, is_pieces_of}
 use Rattle.sial_meaning.specs.Sound.{IsSound}
-use Rattle.sial_meaning.proofs.PairLemmas.{never}
+use Rattle.sial_meaning.proofs.PairLemmas.{never, holds-so}
 use Rattle.sial_meaning.proofs.RestLemmasRules.{neither, kept_none}
 use Rattle.sial_meaning.proofs.ShapeLemmas.{ShapesHold, shapes-hold}
 
@@ -40,11 +40,6 @@ fails-at f (y ∷ ys) (suc k) x none below is =
 -- so it does at what the list has
 fails-in : {X : Type 0} (f : X → Bool) (xs : List X) (x : X) → filter f xs ≡ [] → Contains xs x → f x ≡ false
 fails-in f xs x none has = fails-at f xs has.0 x none has.1 has.2
-
--- what holds where its opposite fails
-holds : (b : Bool) → not b ≡ false → b ≡ true
-holds true is = refl
-holds false is = absurd (never (sym is))
 
 -- whether blocks of a statement name an index twice, or its slots
 abbrev repeats : Plain → Bool
@@ -68,7 +63,7 @@ copy-agrees p to op from hold (v, has, is) =
     let none = fails-in (breaks_indices p) (all_visits p) v hold.indices has in
     let rest = (neither (list_any (wrong_rank p) (blocks_named v.form)) (wrong_slot_rank p v.form || disagrees p v.form) none).1 in
     let agrees = (neither (wrong_slot_rank p v.form) (disagrees p v.form) rest).1 in
-    holds (copy_agrees p to.at from.at) (ap (disagrees p) (sym is) ∙ agrees)
+    holds-so (copy_agrees p to.at from.at) (ap (disagrees p) (sym is) ∙ agrees)
 
 -- what is there is one thing
 pub one-some : {X : Type 0} (x y : X) → ◌≡◌ {A = Option X} (Some x) (Some y) → x ≡ y
@@ -100,7 +95,7 @@ pub same-rest : {X : Type 0} (x y : X) (xs ys : List X) → ◌≡◌ {A = List 
 same-rest x y xs ys same = cc
 
 -- what stands for an index that isn't declared
-abbrev no_index : IndexDecl
+abbrev pub no_index : IndexDecl
 no_index = record { name = []; line = 0; range = range.Segments Index (Number 1) (Number 0) }
 
 -- the spans of a program cut what its ranges say

@@ -26,8 +26,8 @@ use Rattle.sial_meaning.specs.State.{State}
 use Rattle.sial_meaning.specs.Statement.{Went, Reading, reads_of, reads_logged, values_of, created_trap, local_done, effect, unless_trapped}
 use Rattle.sial_meaning.specs.WholeStates.{OwnIsWhole, IsWhole}
 use Rattle.sial_meaning.proofs.GrantedVisits.{Good}
-use Rattle.sial_meaning.proofs.FitLemmas.{Fit, holds-so, placed}
-use Rattle.sial_meaning.proofs.PairLemmas.{never, first-holds, both-hold}
+use Rattle.sial_meaning.proofs.FitLemmas.{Fit, placed}
+use Rattle.sial_meaning.proofs.PairLemmas.{never, first-holds, both-hold, holds-so}
 use Rattle.sial_meaning.proofs.RangeLemmas.{InRange}
 use Rattle.sial_meaning.proofs.WholeEffects.{answer-one}
 use Rattle.sial_meaning.proofs.WholeRest.{GoodWork, GoodAt}

@@ -16,6 +16,7 @@ use Rattle.sial_meaning.specs.Whole.{held_extents}
 use Rattle.sial_meaning.specs.WholeStates.{OwnIsWhole}
 use Rattle.sial_meaning.proofs.FitLemmas.{Fit, named_volume, placed, placed-temp}
 use Rattle.sial_meaning.proofs.RangeLemmas.{InRange}
+use Rattle.sial_meaning.proofs.GrantedLemmas.{one-some}
 
 -- a list with one entry replaced, read at a place: the new entry at its own place, or what was there
 pub set-read : {X : Type 0} (xs : List X) (i j : ℕ) (x d : X) → ((i ≡ j) × (slice_index_or (slice_set xs i x) j d ≡ x)) ⊎ (slice_index_or (slice_set xs i x) j d ≡ slice_index_or xs j d)
@@ -29,10 +30,6 @@ set-read (y ∷ ys) (suc i) (suc j) x d =
       | inl same ↦ inl (ap suc same.0, same.1)
       | inr other ↦ inr other
     ]
-
--- two options that are one
-pub some-one : {X : Type 0} (x y : X) → ◌≡◌ {A = Option X} (Some x) (Some y) → x ≡ y
-some-one x y same = cc
 
 -- a block of a static array replaced by one of its length
 pub static-whole : (g : Setting) (own : Own) (array number : ℕ) (words : List ℕ) → OwnIsWhole g own → length words ≡ block_words g array number → OwnIsWhole g (with_static array number words own)
@@ -77,7 +74,7 @@ temp-whole g own array held whole long = record {
   temps = λ a h is.
       elim (set-read own.temps array a (Some held) None) as (λ q. length h.words ≡ volume (lengths (held_extents g.spaces (dims_of g a) h.members))) [
         | inl same ↦
-            subst (λ (x : Held). length x.words ≡ volume (lengths (held_extents g.spaces (dims_of g a) x.members))) (some-one held h (sym same.1 ∙ is))
+            subst (λ (x : Held). length x.words ≡ volume (lengths (held_extents g.spaces (dims_of g a) x.members))) (one-some held h (sym same.1 ∙ is))
             (subst (λ x. length held.words ≡ volume (lengths (held_extents g.spaces (dims_of g x) held.members))) same.0 long)
         | inr other ↦ whole.temps a h (sym other ∙ is)
       ];
@@ -117,7 +114,7 @@ words-whole g bound own b words Static sound in-range fit is whole long =
 words-whole g bound own b words Temp sound in-range fit is whole long =
     temp-whole g own b.array (record { members = members_of g own b.at; words = words }) whole (long ∙ placed-temp g bound own b sound fit)
 words-whole g bound own b words Local sound in-range fit is whole long =
-    local-whole g own b.array (number_of g own b) (Some words) whole (λ w same. ap length (sym (some-one words w same)) ∙ (long ∙ (placed g bound own b sound in-range fit (ap (λ k. same_kind k Temp) is)).words))
+    local-whole g own b.array (number_of g own b) (Some words) whole (λ w same. ap length (sym (one-some words w same)) ∙ (long ∙ (placed g bound own b sound in-range fit (ap (λ k. same_kind k Temp) is)).words))
 words-whole g bound own b words Distributed sound in-range fit is whole long = whole
 words-whole g bound own b words Served sound in-range fit is whole long = whole
 
@@ -137,7 +134,7 @@ pub allocated-whole : (g : Setting) (array : ℕ) (numbers : List ℕ) (own : Ow
 allocated-whole g array [] own whole = whole
 allocated-whole g array (n ∷ ns) own whole =
     allocated-whole g array ns (with_local array n (Some (zeros g array n)) own)
-    (local-whole g own array n (Some (zeros g array n)) whole (λ words same. ap length (sym (some-one (zeros g array n) words same)) ∙ row-long (block_words g array n)))
+    (local-whole g own array n (Some (zeros g array n)) whole (λ words same. ap length (sym (one-some (zeros g array n) words same)) ∙ row-long (block_words g array n)))
 
 pub deallocated-whole : (g : Setting) (array : ℕ) (numbers : List ℕ) (own : Own) → OwnIsWhole g own → OwnIsWhole g (all_deallocated array numbers own)
 deallocated-whole g array [] own whole = whole

@@ -1,5 +1,5 @@
 -- Accesses at a place, and counts over a list.
-use Rattle.std.proofs.Common.{◌≡◌, ℕ, zero, suc, ◌+◌, ◌<◌, ◌≤◌, cond, Bool, true, false, ◌&&◌, List, [], ◌∷◌, length, slice_index_or, refl, sym, ap, ◌∙◌, subst, arith}
+use Rattle.std.proofs.Common.{◌≡◌, ℕ, zero, suc, ◌+◌, ◌<◌, ◌≤◌, cond, Bool, true, false, ◌&&◌, not, T, List, [], ◌∷◌, length, slice_index_or, refl, sym, ap, ◌∙◌, subst, arith}
 use Rattle.std.proofs.lemmas.Bool.{eqb-true, eq-eqb}
 use Rattle.std.proofs.lemmas.List.Elements.{All-head, All-tail}
 use Rattle.std.proofs.lemmas.List.Sums.{sum_by-cons}
@@ -28,6 +28,26 @@ second-holds false b both = absurd (never both)
 pub both-hold : (a b : Bool) → a ≡ true → b ≡ true → (a && b) ≡ true
 both-hold true b first second = second
 both-hold false b first second = absurd (never first)
+
+-- what fails where its opposite holds
+pub not-so : (b : Bool) → not b ≡ true → b ≡ false
+not-so true is = absurd (never is)
+not-so false is = refl
+
+-- what holds where its opposite fails
+pub holds-so : (b : Bool) → not b ≡ false → b ≡ true
+holds-so true is = refl
+holds-so false is = absurd (never (sym is))
+
+-- a test that passes
+pub true-of : (b : Bool) → T b → b ≡ true
+true-of true t = refl
+true-of false t = absurd t
+
+-- the second of two tests fails where the first passes
+pub second-fails : (a b : Bool) → a ≡ true → (a && b) ≡ false → b ≡ false
+second-fails true b e f = f
+second-fails false b e f = absurd cc
 
 -- two classes that are one
 pub class-is : (a b : Class) → same_class a b ≡ true → a ≡ b

@@ -7,8 +7,8 @@ use Rattle.sial_syntax.specs.Boxes.{IsTupleOf}
 use Rattle.sial_syntax.specs.Spaces.{Spaces, Extent, Span, Segments, Pieces, span_of}
 use Rattle.sial_meaning.specs.LocalStep.{whole_positions}
 use Rattle.sial_meaning.specs.ReadBackLaws.{NoPartOfPart, cuts_each}
-use Rattle.sial_meaning.specs.Sight.{cuts, is_pieces_of, has_index, stands_for, itself_or, position, places_at, lengths}
-use Rattle.sial_meaning.proofs.PairLemmas.{never, first-holds, second-holds, both-hold}
+use Rattle.sial_meaning.specs.Sight.{cuts, is_pieces_of, stands_for, itself_or, position, places_at, lengths}
+use Rattle.sial_meaning.proofs.PairLemmas.{never, first-holds, second-holds, both-hold, not-so}
 use Rattle.sial_meaning.proofs.PlaceLemmas.{Beside, either-holds, or-left, or-right, beside-in, beside-turned, beside-once, beside-some, find-one, find-none}
 
 -- the places of a tuple are the indices beside its whole positions
@@ -62,24 +62,20 @@ cuts-long spaces [] (w ∷ ws) cut = absurd (never cut)
 cuts-long spaces (x ∷ xs) [] cut = absurd (never cut)
 cuts-long spaces (x ∷ xs) (w ∷ ws) cut = ap suc (cuts-long spaces xs ws (second-holds ((x == w) || cuts spaces x w) (cuts_each spaces xs ws) cut))
 
-not-holds : (b : Bool) → not b ≡ true → b ≡ false
-not-holds true is = absurd (never is)
-not-holds false is = refl
-
 -- what stands for an index isn't named, and cuts it or is cut by it
-stands-parts : (spaces : Spaces) (own : List ℕ) (s u : ℕ) → stands_for spaces own s u ≡ true → (has_index own u ≡ false) × ((cuts spaces u s ≡ true) ⊎ (cuts spaces s u ≡ true))
+stands-parts : (spaces : Spaces) (own : List ℕ) (s u : ℕ) → stands_for spaces own s u ≡ true → (contains own u ≡ false) × ((cuts spaces u s ≡ true) ⊎ (cuts spaces s u ≡ true))
 stands-parts spaces own s u is =
-    let first = first-holds (not (has_index own u)) (cuts spaces u s || cuts spaces s u) is in
-    let second = second-holds (not (has_index own u)) (cuts spaces u s || cuts spaces s u) is in
-    (not-holds (has_index own u) first, either-holds (cuts spaces u s) (cuts spaces s u) second)
+    let first = first-holds (not (contains own u)) (cuts spaces u s || cuts spaces s u) is in
+    let second = second-holds (not (contains own u)) (cuts spaces u s || cuts spaces s u) is in
+    (not-so (contains own u) first, either-holds (cuts spaces u s) (cuts spaces s u) second)
 
 fails-not : (b : Bool) → b ≡ false → not b ≡ true
 fails-not true is = absurd (never (sym is))
 fails-not false is = refl
 
-stands-made : (spaces : Spaces) (own : List ℕ) (s u : ℕ) → (has_index own u ≡ true → ⊥) → (cuts spaces u s || cuts spaces s u) ≡ true → stands_for spaces own s u ≡ true
+stands-made : (spaces : Spaces) (own : List ℕ) (s u : ℕ) → (contains own u ≡ true → ⊥) → (cuts spaces u s || cuts spaces s u) ≡ true → stands_for spaces own s u ≡ true
 stands-made spaces own s u fails is =
-    both-hold (not (has_index own u)) (cuts spaces u s || cuts spaces s u) (fails-not (has_index own u) (false_from_ne_true (has_index own u) fails)) is
+    both-hold (not (contains own u)) (cuts spaces u s || cuts spaces s u) (fails-not (contains own u) (false_from_ne_true (contains own u) fails)) is
 
 -- a slice's source: the position of each index is that beside the target's
 pub slice-position : (spaces : Spaces) (ts ss ps : List ℕ) (s t p : ℕ) → NoPartOfPart spaces → has_twice ts ≡ false → has_twice ss ≡ false → cuts_each spaces ts ss ≡ true →
@@ -104,7 +100,7 @@ slice-position spaces ts ss ps s t p whole once-t once-s cut beside at =
                 let parts = stands-parts spaces ss s u stands in
                 let other = beside-some ts ss u long in-ts in
                 elim (cuts-beside spaces ts ss u other.0 cut other.1) as (λ q. u ≡ t) [
-                  | inl equal ↦ absurd (never (sym parts.0 ∙ (ap (has_index ss) equal ∙ beside-in ss ts other.0 u (beside-turned ts ss u other.0 other.1))))
+                  | inl equal ↦ absurd (never (sym parts.0 ∙ (ap (contains ss) equal ∙ beside-in ss ts other.0 u (beside-turned ts ss u other.0 other.1))))
                   | inr part ↦
                       elim parts.1 as (λ q. u ≡ t) [
                         | inl under ↦ beside-once ss ts s u t once-s (subst (λ v. Beside ss ts v u) (cuts-one spaces u other.0 s part under) (beside-turned ts ss u other.0 other.1)) turned

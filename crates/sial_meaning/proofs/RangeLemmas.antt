@@ -5,7 +5,6 @@ use Rattle.std.specs.Prelude.{if◌then◌else◌}
 use Rattle.std.specs.List.{list_any}
 use Rattle.sial_syntax.specs.declared.array.ArrayDecl.{ArrayDecl}
 use Rattle.sial_syntax.specs.declared.array.ArrayKind.TheVariants.{Temp}
-use Rattle.sial_syntax.specs.declared.index.Bound.TheVariants.{Number}
 use Rattle.sial_syntax.specs.declared.index.IndexDecl.{IndexDecl}
 use Rattle.sial_syntax.specs.declared.index.Kind.{Kind}
 use Rattle.sial_syntax.specs.declared.index.Kind.TheVariants.{Ao, Mo, Moa, Mob, Index}
@@ -21,7 +20,7 @@ use Rattle.sial_meaning.specs.Own.{Own, member_of}
 use Rattle.sial_meaning.specs.Setting.{Setting, array_kind, dims_of}
 use Rattle.sial_meaning.specs.Sound.{IsSound}
 use Rattle.sial_meaning.specs.Whole.{extents_of, member_extent, held_extents}
-use Rattle.sial_meaning.proofs.GrantedLemmas.{one-some, same-first, same-rest}
+use Rattle.sial_meaning.proofs.GrantedLemmas.{one-some, same-first, same-rest, no_index}
 use Rattle.sial_meaning.proofs.ShapeLemmas.{shapes-hold}
 use Rattle.sial_meaning.proofs.PairLemmas.{never, first-holds, second-holds}
 use Rattle.sial_meaning.proofs.PlaceLemmas.{either-holds}
@@ -74,9 +73,6 @@ range-runs constants (range.Segments kind lo hi) s same = between-runs kind (bou
 range-runs constants (range.Sub super) s same = subst (λ (x : Span). Runs x (range.Sub super)) (sym (one-some s (Pieces super) same)) refl
 
 -- what stands for an index that isn't declared
-abbrev no_index : IndexDecl
-no_index = record { name = []; line = 0; range = range.Segments Index (Number 1) (Number 0) }
-
 spans-run : (constants : Constants) (spans : List Span) (indices : List IndexDecl) (i : ℕ) → map Some spans ≡ map (λ (i : IndexDecl). span_of_range constants i.range) indices
     → Runs (slice_index_or spans i (Segments Index 1 0)) (slice_index_or indices i no_index).range
 spans-run constants [] [] i same = refl

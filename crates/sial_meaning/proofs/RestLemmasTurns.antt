@@ -1,5 +1,5 @@
 -- Loops and pardos, turn by turn.
-use Rattle.std.proofs.Common.{◌≡◌, ℕ, zero, suc, ◌+◌, ◌<◌, List, [], ◌∷◌, map, Bool, true, false, ◌||◌, T, eqb, Ok, Err, length, refl, sym, ap, ◌∙◌, subst, arith}
+use Rattle.std.proofs.Common.{◌≡◌, ℕ, zero, suc, ◌+◌, ◌<◌, List, [], ◌∷◌, map, Bool, true, false, ◌||◌, eqb, Ok, Err, length, refl, sym, ap, ◌∙◌, subst, arith}
 use Rattle.std.proofs.lemmas.Bool.{lt-ltb, le-ltb}
 use Rattle.std.proofs.lemmas.List.{length-set, get_or-set_same}
 use Rattle.std.proofs.Math.Dec.{eqb_refl}
@@ -18,6 +18,7 @@ use Rattle.sial_meaning.specs.Setting.{Setting}
 use Rattle.sial_meaning.specs.State.{State}
 use Rattle.sial_meaning.specs.Statement.{Outcome, Went, Stopped, after, Reading}
 use Rattle.sial_meaning.proofs.RestLemmas.{Comes, Leads, leads_step, leads_after, comes_here, comes_moved}
+use Rattle.sial_meaning.proofs.PairLemmas.{true-of}
 
 -- what follows what follows
 after_after : (o : Outcome) (f h : State → Outcome) → after (after o f) h ≡ after o (λ s. after (f s) h)
@@ -39,14 +40,9 @@ pub depth_pushed : (at : ℕ) (body : Block) (rest : Rest) → depth (push at bo
 depth_pushed at End rest = refl
 depth_pushed at (Then line form more) rest = depth_pushed (at + size form) more rest
 
--- a test that passes
-true_of : (b : Bool) → T b → b ≡ true
-true_of true t = refl
-true_of false t = absurd t
-
 -- an index is among those that begin with it
 pub first_among : (index : ℕ) (indices : List ℕ) → contains (index ∷ indices) index ≡ true
-first_among index indices = ap (λ b. b || contains indices index) (true_of (eqb index index) (eqb_refl index))
+first_among index indices = ap (λ b. b || contains indices index) (true-of (eqb index index) (eqb_refl index))
 
 -- the fold over a box goes by the places in it
 pub over_box : (dims : List ℕ) (turn : List ℕ → State → Outcome) (s : State) → over (tuples dims) turn s ≡ over (numbers_from 0 (volume dims)) (λ j. turn (tuple_at dims j)) s

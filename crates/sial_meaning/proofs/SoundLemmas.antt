@@ -1,5 +1,5 @@
 -- Soundness of a setting, by computation.
-use Rattle.std.proofs.Common.{◌≡◌, ℕ, ◌≤◌, Bool, true, false, ◌==◌, ◌&&◌, not, nat_le, List, ◌∷◌, [], map, length, Some, None, refl, sym, arith}
+use Rattle.std.proofs.Common.{◌≡◌, ℕ, ◌≤◌, Bool, true, ◌==◌, ◌&&◌, not, nat_le, List, ◌∷◌, [], map, length, Some, None, sym, arith}
 use Rattle.std.specs.List.{list_all, enumerate_from}
 use Rattle.std.proofs.lemmas.Bool.{eqb-true}
 use Rattle.std.proofs.lemmas.Bool.Decides.{nat_tests}
@@ -17,7 +17,7 @@ use Rattle.sial_syntax.specs.Tree.{Tree}
 use Rattle.sial_syntax.specs.Visits.{Visit, all_visits}
 use Rattle.sial_meaning.specs.Setting.{Setting}
 use Rattle.sial_meaning.specs.Sound.{IsSound, is_number, is_start, given_twice}
-use Rattle.sial_meaning.proofs.PairLemmas.{never, first-holds, second-holds}
+use Rattle.sial_meaning.proofs.PairLemmas.{first-holds, second-holds, not-so}
 
 -- whether all of a row of tests hold
 abbrev pub hold : List Bool → Bool
@@ -70,11 +70,6 @@ each (b ∷ bs) all = (first-holds b (hold bs) all, each bs (second-holds b (hol
 at-most : (a b : ℕ) → nat_le a b ≡ true → a ≤ b
 at-most a b is = grind (arith, nat_tests)
 
--- a test that fails where its opposite holds
-fails : (b : Bool) → not b ≡ true → b ≡ false
-fails true is = absurd (never is)
-fails false is = refl
-
 proper-by : (p : Tree) → hold (is_proper p) ≡ true → IsProper p
 proper-by p all =
     let e = each (is_proper p) all in
@@ -120,5 +115,5 @@ sound-by g constants shapes sides proper spaces spans classes locals starts =
       count = eqb-true (length g.numbers) (length g.program.scalars) e.0;
       numbers = e.1.0;
       blocks = e.1.1.0;
-      once = fails (given_twice g.blocks) e.1.1.1.0;
+      once = not-so (given_twice g.blocks) e.1.1.1.0;
     }

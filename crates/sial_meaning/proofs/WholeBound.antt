@@ -20,8 +20,9 @@ use Rattle.sial_meaning.proofs.PairLemmas.{never}
 use Rattle.sial_meaning.proofs.PlaceLemmas.{either-holds, or-left, or-right}
 use Rattle.sial_meaning.proofs.RangeLemmas.{InSpan, InRange}
 use Rattle.sial_meaning.proofs.RestLemmasRules.{both, neither}
-use Rattle.sial_meaning.proofs.WholeCreated.{each-read, each-long}
+use Rattle.sial_meaning.proofs.WholeCreated.{each-read}
 use Rattle.sial_meaning.proofs.WholeRest.{values-whole, others-stay, fewer, one-more-bound, place-there}
+use Rattle.sial_meaning.proofs.ControlLemmas.{each-long}
 
 -- a row of one thing, made of another row
 pub all-none : {X Y : Type 0} (xs : List X) (k : ℕ) → ◌≡◌ {A = Option Y} (slice_index_or (map (λ x. None) xs) k None) None

@@ -1,12 +1,11 @@
 -- Arrays created and deleted, and every statement that holds no other, leave a whole state.
 use Rattle.std.proofs.Common.{◌≡◌, ℕ, zero, suc, ◌+◌, ◌<◌, ◌≤◌, ◌⊎◌, List, [], ◌∷◌, map, length, slice_index_or, slice_set, replicate, Bool, true, false, ◌==◌, Option, Some, None, refl, sym, ap, ◌∙◌, subst, eqb-true, arith}
 use Rattle.std.proofs.lemmas.Bool.{eq-eqb}
-use Rattle.std.proofs.lemmas.List.{length-map, length-set, get_or-set_same, get_or-set_other, get_or-replicate, length-replicate}
+use Rattle.std.proofs.lemmas.List.{length-set, get_or-set_same, get_or-set_other, get_or-replicate, length-replicate}
 use Rattle.sial_syntax.specs.declared.array.ArrayKind.TheVariants.{Distributed}
 use Rattle.sial_syntax.specs.Agreeing.{has_kind}
 use Rattle.sial_syntax.specs.Boxes.{numbers_from}
 use Rattle.sial_syntax.specs.Tree.{Plain, Get, Request, Put, Prepare, Create, Delete, Collective, SipBarrier, ServerBarrier}
-use Rattle.sial_syntax.proofs.BoxLemmas.{numbers-length}
 use Rattle.sial_meaning.specs.declared.trap.TrapKind.{TrapKind}
 use Rattle.sial_meaning.specs.LocalStep.{local_step}
 use Rattle.sial_meaning.specs.Own.{Own, for_each, with_created}
@@ -15,14 +14,14 @@ use Rattle.sial_meaning.specs.Sound.{IsSound}
 use Rattle.sial_meaning.specs.State.{State, with_run}
 use Rattle.sial_meaning.specs.Statement.{Reading, reads_of, reads_logged, values_of, created_trap, created, deleted, effect, unless_trapped, statement}
 use Rattle.sial_meaning.specs.WholeStates.{OwnIsWhole, DistributedIsWhole, IsWhole, words_if}
-use Rattle.sial_meaning.proofs.FitLemmas.{holds-so}
 use Rattle.sial_meaning.proofs.GrantedVisits.{Good}
 use Rattle.sial_meaning.proofs.OwnLemmas.{row-long}
-use Rattle.sial_meaning.proofs.PairLemmas.{never}
+use Rattle.sial_meaning.proofs.PairLemmas.{never, holds-so}
 use Rattle.sial_meaning.proofs.RangeLemmas.{InRange}
 use Rattle.sial_meaning.proofs.RunLemmas.{run-long, run-other, run-same, declared-array, within-class, apart-in-class}
 use Rattle.sial_meaning.proofs.WholeEffects.{kind-one, array-right, put-whole, prepare-whole}
 use Rattle.sial_meaning.proofs.WholeStatements.{WholeTo, DoneWhole, reads-same, reads-whole, step-done, local-whole-to, scalars-whole}
+use Rattle.sial_meaning.proofs.ControlLemmas.{each-long}
 
 -- a row of things, one for each number
 pub row-read : {X : Type 0} (f : ℕ → X) (first n k : ℕ) (d : X) → k < n → slice_index_or (map f (numbers_from first n)) k d ≡ f (first + k)
@@ -34,9 +33,6 @@ row-read f first (suc n) (suc k) d below =
 
 pub each-read : {X : Type 0} (n : ℕ) (f : ℕ → X) (k : ℕ) (d : X) → k < n → slice_index_or (for_each n f) k d ≡ f k
 each-read n f k d below = let none : 0 + k ≡ k = omega arith in row-read f 0 n k d below ∙ ap f none
-
-pub each-long : {X : Type 0} (n : ℕ) (f : ℕ → X) → length (for_each n f) ≡ n
-each-long n f = length-map (numbers_from 0 n) f ∙ numbers-length 0 n
 
 -- the blocks of an array replaced together, and its flag changed
 replaced-whole : (g : Setting) (flags : List Bool) (blocks : List (List ℕ)) (array : ℕ) (now : Bool) (ys : List (List ℕ)) → array_kind g array ≡ Distributed → length flags ≡ length g.program.arrays → DistributedIsWhole g flags blocks

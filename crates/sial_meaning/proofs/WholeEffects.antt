@@ -27,10 +27,10 @@ use Rattle.sial_meaning.specs.State.{State, accessed_words, shared_block}
 use Rattle.sial_meaning.specs.Statement.{Named, named, class_or, is_missing, is_distributed, created_trap, stored, put_done}
 use Rattle.sial_meaning.specs.Whole.{held_extents}
 use Rattle.sial_meaning.specs.WholeStates.{OwnIsWhole, DistributedIsWhole, ServedIsWhole, IsWhole, words_if}
-use Rattle.sial_meaning.proofs.FitLemmas.{Fit, named_volume, front-in, holds-so, fit-named, placed, placed-temp}
+use Rattle.sial_meaning.proofs.FitLemmas.{Fit, named_volume, front-in, fit-named, placed, placed-temp}
 use Rattle.sial_meaning.proofs.GrantedVisits.{Good}
 use Rattle.sial_meaning.proofs.OwnLemmas.{set-read}
-use Rattle.sial_meaning.proofs.PairLemmas.{never, first-holds, second-holds}
+use Rattle.sial_meaning.proofs.PairLemmas.{never, first-holds, second-holds, holds-so}
 use Rattle.sial_meaning.proofs.RangeLemmas.{InRange}
 use Rattle.sial_meaning.proofs.RestLemmasRules.{neither}
 use Rattle.sial_meaning.proofs.WholeStatements.{WholeTo}

@@ -11,9 +11,10 @@ use Rattle.sial_meaning.specs.State.{State, shared_block}
 use Rattle.sial_meaning.specs.Whole.{block_positions, whole_array}
 use Rattle.sial_meaning.specs.WholeStates.{IsWhole, words_if, blocks_in, has_blocks, BlocksOfStatesAreTheMap, TempsOfStatesAreTheMap}
 use Rattle.sial_meaning.proofs.PairLemmas.{never}
-use Rattle.sial_meaning.proofs.WholeCreated.{each-read, each-long}
+use Rattle.sial_meaning.proofs.WholeCreated.{each-read}
 use Rattle.sial_meaning.proofs.WholeLemmas.{blocks-are-the-map, held-blocks-are-the-map}
 use Rattle.sial_meaning.proofs.WholeSteps.{reached-states-are-whole}
+use Rattle.sial_meaning.proofs.ControlLemmas.{each-long}
 
 -- as many blocks as the array has, each as long as it should be
 by-row : (g : Setting) (array number : ℕ) (f : ℕ → List ℕ) → IsSound g → number < block_count g array → length (f number) ≡ block_words g array number

@@ -17,7 +17,8 @@ use Rattle.sial_meaning.specs.WholeStates.{OwnIsWhole, DistributedIsWhole, Serve
 use Rattle.sial_meaning.proofs.OwnLemmas.{row-long}
 use Rattle.sial_meaning.proofs.PairLemmas.{first-holds, second-holds}
 use Rattle.sial_meaning.proofs.RunLemmas.{counted, one-more, take-whole, declared-array}
-use Rattle.sial_meaning.proofs.WholeCreated.{each-read, each-long}
+use Rattle.sial_meaning.proofs.WholeCreated.{each-read}
+use Rattle.sial_meaning.proofs.ControlLemmas.{each-long}
 
 -- a given block, or zeros
 given-long : (g : Setting) (array number : ℕ) (blocks : List Given) → list_all (is_start g) blocks ≡ true

@@ -22,11 +22,12 @@ use Rattle.sial_meaning.specs.Sound.{IsSound}
 use Rattle.sial_meaning.specs.State.{State, Shared}
 use Rattle.sial_meaning.specs.Statement.{Outcome, Went, Stopped, reads_logged, local_done}
 use Rattle.sial_meaning.specs.WholeStates.{OwnIsWhole, DistributedIsWhole, ServedIsWhole, IsWhole}
-use Rattle.sial_meaning.proofs.FitLemmas.{Fit, named_volume, front-in, holds-so, fit-named}
+use Rattle.sial_meaning.proofs.FitLemmas.{Fit, named_volume, front-in, fit-named}
 use Rattle.sial_meaning.proofs.GrantedVisits.{Good}
 use Rattle.sial_meaning.proofs.OwnLemmas.{words-whole, integrals-long, allocated-whole, deallocated-whole}
 use Rattle.sial_meaning.proofs.RangeLemmas.{InRange}
 use Rattle.sial_meaning.proofs.ReadBackLemmas.{as-many-elements}
+use Rattle.sial_meaning.proofs.PairLemmas.{holds-so}
 
 -- an outcome's state is whole
 abbrev pub WholeTo : Setting → Outcome → Type 0

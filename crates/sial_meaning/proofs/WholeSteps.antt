@@ -22,10 +22,9 @@ use Rattle.sial_meaning.specs.Sound.{IsSound}
 use Rattle.sial_meaning.specs.State.{State, start_state}
 use Rattle.sial_meaning.specs.Statement.{Outcome, Went, Stopped, Reading, statement}
 use Rattle.sial_meaning.specs.WholeStates.{IsWhole, StandsAt, ReachedStatesAreWhole, state_of, OutcomesAreReached}
-use Rattle.sial_meaning.proofs.FitLemmas.{holds-so}
 use Rattle.sial_meaning.proofs.GrantedLemmas.{cuts-as-said}
 use Rattle.sial_meaning.proofs.GrantedVisits.{Good, AllGood, good-split, body-good}
-use Rattle.sial_meaning.proofs.PairLemmas.{never}
+use Rattle.sial_meaning.proofs.PairLemmas.{never, holds-so}
 use Rattle.sial_meaning.proofs.PlaceLemmas.{or-right}
 use Rattle.sial_meaning.proofs.RangeLemmas.{InSpan, InRange}
 use Rattle.sial_meaning.proofs.RestLemmasFold.{reaches_fold}

@@ -1,13 +1,14 @@
 -- The value of a right side at places, and the block that an assignment makes of its target.
 use Rattle.std.specs.Prelude.{ℕ, ◌*◌, ◌%◌, ◌^◌, List, ◌++◌, map, Bool, false, ◌&&◌, not, Option, Some, None, filter, zip, sum_by, unwrap_or}
 use Rattle.std.specs.List.{list_any}
+use Rattle.sial_syntax.specs.Agreeing.{contains}
 use Rattle.sial_syntax.specs.Boxes.{tuples}
 use Rattle.sial_syntax.specs.Spaces.{Spaces, Extent}
 use Rattle.sial_syntax.specs.declared.operand.Bin.{Bin}
 use Rattle.sial_syntax.specs.declared.operand.Bin.TheVariants.{Plus, Minus, Times, Outer}
 use Rattle.sial_syntax.specs.declared.operand.Op.{Op}
 use Rattle.sial_meaning.specs.Number.{plus, minus, times, combined}
-use Rattle.sial_meaning.specs.Sight.{Sight, Places, cuts, has_index, element, places_at, word_at, lengths}
+use Rattle.sial_meaning.specs.Sight.{Sight, Places, cuts, element, places_at, word_at, lengths}
 
 -- an operand that was read: the same number everywhere, or a block
 pub data Term : Type 0 where
@@ -32,7 +33,7 @@ term_at spaces places (Shown sight) = element spaces places sight
 
 -- the indices that two blocks share, with what they lie on
 abbrev pub shared_dims : Sight → Sight → List (ℕ × Extent)
-shared_dims a b = filter (λ d. has_index b.at d.0) (zip a.at a.extents)
+shared_dims a b = filter (λ d. contains b.at d.0) (zip a.at a.extents)
 
 -- how many positions each of these indices has
 abbrev pub dim_lengths : List (ℕ × Extent) → List ℕ
@@ -72,7 +73,7 @@ assigned spaces op target side =
 
 -- whether an index stands for only a part of one of the target's
 abbrev pub is_part : Spaces → List ℕ → ℕ → Bool
-is_part spaces target index = not (has_index target index) && list_any (cuts spaces index) target
+is_part spaces target index = not (contains target index) && list_any (cuts spaces index) target
 
 -- whether a right side names only a part of the target
 abbrev pub is_insertion : Spaces → List ℕ → Side → Bool

@@ -1,6 +1,6 @@
 -- Blocks where they are named: the positions that they lie on, and their elements by position.
 use Rattle.std.specs.Prelude.{ℕ, ◌+◌, ◌-◌, List, [], ◌∷◌, map, Bool, true, false, ◌==◌, ◌&&◌, ◌||◌, not, if◌then◌else◌, nat_lt, nat_le, Option, Some, None, find, slice_index_or}
-use Rattle.std.specs.List.{list_any}
+use Rattle.sial_syntax.specs.Agreeing.{contains}
 use Rattle.sial_syntax.specs.Boxes.{place_of}
 use Rattle.sial_syntax.specs.Spaces.{Spaces, Span, Segments, Pieces, Extent, span_of}
 
@@ -33,13 +33,9 @@ abbrev pub itself_or : Option (ℕ × ℕ) → Option (ℕ × ℕ) → ℕ
 itself_or None other = found_or_none other
 itself_or (Some p) other = p.1
 
--- whether a list of indices has this one
-abbrev pub has_index : List ℕ → ℕ → Bool
-has_index indices index = list_any (λ i. i == index) indices
-
 -- whether an index stands for another of a block with these indices: it cuts it or is cut by it, and the block doesn't name it
 abbrev pub stands_for : Spaces → List ℕ → (index other : ℕ) → Bool
-stands_for spaces own index other = not (has_index own other) && (cuts spaces other index || cuts spaces index other)
+stands_for spaces own index other = not (contains own other) && (cuts spaces other index || cuts spaces index other)
 
 -- the position that an index of a block with these indices has among places: under the index itself, and else under the one that stands for it
 abbrev pub position : Spaces → List ℕ → Places → ℕ → ℕ
