@@ -5,7 +5,8 @@ use Rattle.std.proofs.lemmas.Bool.Decides.{Decides-eqb, Decides-like, same_from_
 use Rattle.std.specs.List.{filter}
 use Rattle.sial_syntax.specs.declared.access.Class.{Class}
 use Rattle.sial_syntax.specs.declared.access.Class.TheVariants.{Distributed, Served}
-use Rattle.block_cache.specs.Recency.{Block, same_class, same_block, has_block, without, are_distinct}
+use Rattle.block_cache.specs.Recency.{Block, same_block, has_block, without, are_distinct}
+use Rattle.sial_syntax.specs.Spaces.{same_class}
 
 -- where two tests hold, each does
 both_true : (a b : Bool) → (a && b) ≡ true → (a ≡ true) × (b ≡ true)

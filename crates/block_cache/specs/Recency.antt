@@ -2,9 +2,9 @@
 use Rattle.std.specs.Prelude.{◌≡◌, ℕ, ◌+◌, ◌≤◌, ◌==◌, ◌&&◌, ◌||◌, if◌then◌else◌, Bool, true, false, not, List, [], ◌∷◌, ◌++◌, length, IsTrue, Option, Some, None}
 use Rattle.std.specs.List.{list_any, list_all, filter}
 use Rattle.sial_syntax.specs.declared.access.Class.{Class}
-use Rattle.sial_syntax.specs.declared.access.Class.TheVariants.{Distributed, Served}
 use Rattle.block_cache.specs.declared.found.Found.{Found}
 use Rattle.block_cache.specs.declared.found.Found.TheVariants.{Cached, Awaited, Absent}
+use Rattle.sial_syntax.specs.Spaces.{same_class}
 
 -- a shared block: its class and its number
 abbrev pub Block : Type 0
@@ -15,13 +15,6 @@ pub record Recency : Type 0 where
   pub cached : List Block
   pub awaited : List Block
   pub places : ℕ
-
--- whether two classes are one
-abbrev pub same_class : Class → Class → Bool
-same_class Distributed Distributed = true
-same_class Distributed Served = false
-same_class Served Distributed = false
-same_class Served Served = true
 
 -- whether two blocks are one
 abbrev pub same_block : Block → Block → Bool

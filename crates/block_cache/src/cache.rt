@@ -3,7 +3,8 @@
 ghost use Rattle.std.specs.Prelude.{◌≡◌, ◌+◌, ◌<◌, ◌≤◌, true, false, length, IsTrue, IfSome, IfNone};
 ghost use Rattle.std.specs.List.{list_all};
 ghost use Rattle.arrayvec.specs.ArrayVec.{array_vec_len};
-ghost use Rattle.block_cache.specs.Recency.{same_class, same_block, has_block, without, without_class, is_it, spares, found_in, empty_cache, after_touch, after_await, after_arrival, after_drop, IsLastFailing, Evicts};
+ghost use Rattle.sial_syntax.specs.Spaces.{same_class};
+ghost use Rattle.block_cache.specs.Recency.{same_block, has_block, without, without_class, is_it, spares, found_in, empty_cache, after_touch, after_await, after_arrival, after_drop, IsLastFailing, Evicts};
 
 use crate::found::Found;
 use arrayvec::ArrayVec;

@@ -10,12 +10,13 @@ use Rattle.sial_syntax.specs.declared.access.Class.{Class}
 use Rattle.sial_syntax.specs.declared.access.Class.TheVariants.{Distributed, Served}
 use Rattle.sial_syntax.specs.declared.operand.BlockRef.{BlockRef}
 use Rattle.sial_syntax.specs.Proper.{is_write}
-use Rattle.sial_meaning.specs.Access.{Touch, same_class, may_stand, clashes}
+use Rattle.sial_meaning.specs.Access.{Touch, may_stand, clashes}
 use Rattle.sial_meaning.specs.Setting.{Setting}
 use Rattle.sial_meaning.specs.State.{Shared, Epochs, State, epoch_of, shared_block, with_block, accessed_words, logged, epoch_ended, start_state}
 use Rattle.sial_meaning.specs.Statement.{Outcome, Went, Stopped, Named, named, reads_logged, stored, created, deleted}
 use Rattle.sial_meaning.proofs.RestLemmasRules.{neither}
 use Rattle.sial_meaning.proofs.PairLemmas.{true-of, second-fails}
+use Rattle.sial_syntax.specs.Spaces.{same_class}
 
 -- a read of a block in the present epoch
 abbrev pub read_now : State → Class → (block : ℕ) → Touch

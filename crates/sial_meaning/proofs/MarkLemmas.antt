@@ -9,12 +9,13 @@ use Rattle.std.specs.List.{list_any}
 use Rattle.std.specs.Prelude.{All, AllPairs, find, if◌then◌else◌}
 use Rattle.sial_syntax.specs.declared.access.Access.{Access}
 use Rattle.sial_syntax.specs.declared.access.Class.{Class}
-use Rattle.sial_meaning.specs.Access.{Touch, Mark, same_class, same_place, may_stand, clashes, clash_with, found, first_clash, clash_of, mark_after}
+use Rattle.sial_meaning.specs.Access.{Touch, Mark, same_place, may_stand, clashes, clash_with, found, first_clash, clash_of, mark_after}
 use Rattle.sial_meaning.specs.Accepted.{StandsWith}
 use Rattle.sial_meaning.specs.MarkLaws.{Marks, no_marks, marked, found_or, marks_find, NeverFalls, MarksFindFirstClash}
 use Rattle.sial_meaning.proofs.PairLemmas.{never, first-holds, second-holds, both-hold, class-is, class-self, At, place-at, place-from, pairs-head, pairs-tail}
 use Rattle.sial_meaning.proofs.CountLemmas.{at-self, only}
 use Rattle.sial_meaning.proofs.RefusalLemmas.{stands-by, all-middle}
+use Rattle.sial_syntax.specs.Spaces.{same_class}
 
 -- an access at a place
 abbrev here : Class → (block epoch : ℕ) → Touch → Bool

@@ -7,8 +7,9 @@ use Rattle.std.specs.Prelude.{All, AllPairs, count_by, ◌==◌}
 use Rattle.sial_syntax.specs.declared.access.Access.{Access}
 use Rattle.sial_syntax.specs.declared.access.Class.{Class}
 use Rattle.sial_syntax.specs.declared.access.Class.TheVariants.{Distributed, Served}
-use Rattle.sial_meaning.specs.Access.{Touch, same_class, same_place}
+use Rattle.sial_meaning.specs.Access.{Touch, same_place}
 use Rattle.sial_meaning.specs.Accepted.{is_at}
+use Rattle.sial_syntax.specs.Spaces.{same_class}
 
 -- false is not true
 pub never : false ≡ true → ⊥

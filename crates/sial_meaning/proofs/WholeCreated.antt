@@ -1,10 +1,11 @@
 -- Arrays created and deleted, and every statement that holds no other, leave a whole state.
-use Rattle.std.proofs.Common.{◌≡◌, ℕ, zero, suc, ◌+◌, ◌<◌, ◌≤◌, ◌⊎◌, List, [], ◌∷◌, map, length, slice_index_or, slice_set, replicate, Bool, true, false, ◌==◌, Option, Some, None, refl, sym, ap, ◌∙◌, subst, eqb-true, arith}
+use Rattle.std.proofs.Common.{◌≡◌, ℕ, ◌+◌, ◌<◌, ◌≤◌, ◌⊎◌, List, [], ◌∷◌, map, length, slice_index_or, slice_set, replicate, Bool, true, false, ◌==◌, Option, Some, None, refl, sym, ap, ◌∙◌, subst, eqb-true, arith}
 use Rattle.std.proofs.lemmas.Bool.{eq-eqb}
-use Rattle.std.proofs.lemmas.List.{length-set, get_or-set_same, get_or-set_other, get_or-replicate, length-replicate}
+use Rattle.std.proofs.lemmas.List.{get_or-map, length-set, get_or-set_same, get_or-set_other, get_or-replicate, length-replicate}
 use Rattle.sial_syntax.specs.declared.array.ArrayKind.TheVariants.{Distributed}
 use Rattle.sial_syntax.specs.Agreeing.{has_kind}
 use Rattle.sial_syntax.specs.Boxes.{numbers_from}
+use Rattle.sial_syntax.proofs.BoxLemmas.{numbers-length, numbers-read}
 use Rattle.sial_syntax.specs.Tree.{Plain, Get, Request, Put, Prepare, Create, Delete, Collective, SipBarrier, ServerBarrier}
 use Rattle.sial_meaning.specs.declared.trap.TrapKind.{TrapKind}
 use Rattle.sial_meaning.specs.LocalStep.{local_step}
@@ -25,11 +26,7 @@ use Rattle.sial_meaning.proofs.ControlLemmas.{each-long}
 
 -- a row of things, one for each number
 pub row-read : {X : Type 0} (f : ℕ → X) (first n k : ℕ) (d : X) → k < n → slice_index_or (map f (numbers_from first n)) k d ≡ f (first + k)
-row-read f first zero k d below = absurd (omega (arith, below))
-row-read f first (suc n) zero d below = ap f (omega arith)
-row-read f first (suc n) (suc k) d below =
-    let on : (first + 1) + k ≡ first + suc k = omega arith in
-    row-read f (first + 1) n k d (omega (arith, below)) ∙ ap f on
+row-read f first n k d below = get_or-map f (numbers_from first n) k 0 d (subst (λ m. k < m) (sym (numbers-length first n)) below) ∙ ap f (numbers-read first n k 0 below)
 
 pub each-read : {X : Type 0} (n : ℕ) (f : ℕ → X) (k : ℕ) (d : X) → k < n → slice_index_or (for_each n f) k d ≡ f k
 each-read n f k d below = let none : 0 + k ≡ k = omega arith in row-read f 0 n k d below ∙ ap f none

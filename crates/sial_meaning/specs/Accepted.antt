@@ -4,10 +4,11 @@ use Rattle.sial_syntax.specs.declared.access.Access.{Access}
 use Rattle.sial_syntax.specs.declared.access.Access.TheVariants.{Read, Add, Max, Store}
 use Rattle.sial_syntax.specs.declared.access.Class.{Class}
 use Rattle.sial_meaning.specs.declared.trap.Trap.{Trap}
-use Rattle.sial_meaning.specs.Access.{Touch, Found, same_class, same_place, may_stand, first_clash}
+use Rattle.sial_meaning.specs.Access.{Touch, Found, same_place, may_stand, first_clash}
 use Rattle.sial_meaning.specs.Meaning.{sequential}
 use Rattle.sial_meaning.specs.Setting.{Setting}
 use Rattle.sial_meaning.specs.Statement.{Outcome, Went, Stopped}
+use Rattle.sial_syntax.specs.Spaces.{same_class}
 
 -- why a program is refused
 pub data Refusal : Type 0 where

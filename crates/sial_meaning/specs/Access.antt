@@ -4,8 +4,8 @@ use Rattle.std.specs.List.{list_any}
 use Rattle.sial_syntax.specs.declared.access.Access.{Access}
 use Rattle.sial_syntax.specs.declared.access.Access.TheVariants.{Read, Add, Max}
 use Rattle.sial_syntax.specs.declared.access.Class.{Class}
-use Rattle.sial_syntax.specs.declared.access.Class.TheVariants.{Distributed, Served}
 use Rattle.sial_meaning.specs.declared.clash.Clash.{Clash}
+use Rattle.sial_syntax.specs.Spaces.{same_class}
 
 -- one access to a shared block, with the epoch of its class and the text line of its statement
 pub record Touch : Type 0 where
@@ -14,13 +14,6 @@ pub record Touch : Type 0 where
   pub block : ℕ
   pub kind : Access
   pub line : ℕ
-
--- whether two classes are one
-abbrev pub same_class : Class → Class → Bool
-same_class Distributed Distributed = true
-same_class Distributed Served = false
-same_class Served Distributed = false
-same_class Served Served = true
 
 -- whether two accesses to one block may stand together in an epoch: only reads, only adds or only maxes
 abbrev pub may_stand : Access → Access → Bool

@@ -1,12 +1,13 @@
 -- The marks of blocks find the same first clash as the pairs of a log.
 use Rattle.std.specs.Prelude.{◌≡◌, ℕ, ◌≤◌, List, [], ◌∷◌, ◌==◌, ◌&&◌, if◌then◌else◌, Option, Some, None, AllPairs, IsTrue}
 use Rattle.sial_syntax.specs.declared.access.Class.{Class}
-use Rattle.sial_meaning.specs.Access.{Touch, Found, Mark, same_class, first_clash, clash_of, mark_after}
+use Rattle.sial_meaning.specs.Access.{Touch, Found, Mark, first_clash, clash_of, mark_after}
 use Rattle.sial_meaning.specs.Accepted.{log_of}
 use Rattle.sial_meaning.specs.declared.clash.Clash.{Clash}
 use Rattle.sial_meaning.specs.Meaning.{meaning, sequential}
 use Rattle.sial_meaning.specs.Setting.{Setting}
 use Rattle.sial_meaning.specs.Statement.{Reading}
+use Rattle.sial_syntax.specs.Spaces.{same_class}
 
 -- the mark of each block of each class
 abbrev pub Marks : Type 0

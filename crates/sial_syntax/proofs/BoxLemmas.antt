@@ -1,5 +1,5 @@
 -- Rows of numbers, the tuples of a box, and their places.
-use Rattle.std.proofs.Common.{◌≡◌, ℕ, zero, suc, ◌+◌, ◌*◌, ◌/◌, ◌%◌, ◌<◌, ◌≤◌, List, [], ◌∷◌, ◌++◌, map, length, refl, sym, ap, ◌∙◌, subst, arith, add-zero}
+use Rattle.std.proofs.Common.{◌≡◌, ℕ, zero, suc, ◌+◌, ◌*◌, ◌/◌, ◌%◌, ◌<◌, ◌≤◌, List, [], ◌∷◌, ◌++◌, map, length, slice_index_or, refl, sym, ap, ◌∙◌, subst, arith, add-zero}
 use Rattle.std.proofs.Math.Nat.{div-add-mod, div-lt_iff_lt-mul, mod-lt, mul-le-mul_right}
 use Rattle.std.proofs.lemmas.Simd.{map-map}
 use Rattle.std.proofs.lemmas.List.{map-append, length-map}
@@ -47,6 +47,12 @@ numbers-split first (suc m) n =
 pub numbers-length : (first n : ℕ) → length (numbers_from first n) ≡ n
 numbers-length first zero = refl
 numbers-length first (suc n) = ap suc (numbers-length (first + 1) n)
+
+-- a number of a row
+pub numbers-read : (first n k d : ℕ) → k < n → slice_index_or (numbers_from first n) k d ≡ first + k
+numbers-read first zero k d below = absurd (omega (arith, below))
+numbers-read first (suc n) zero d below = omega arith
+numbers-read first (suc n) (suc k) d below = numbers-read (first + 1) n k d (omega (arith, below)) ∙ omega arith
 
 -- rows of one length after one another are one row
 pub rows-are : {X : Type 0} (g : ℕ → ℕ → X) (h : ℕ → X) (v : ℕ) → ((k r : ℕ) → r < v → h (k * v + r) ≡ g k r) → (first n : ℕ) →

@@ -5,6 +5,8 @@ use Rattle.sial_syntax.specs.declared.index.Kind.TheVariants.{Ao, Mo, Moa, Mob, 
 use Rattle.sial_syntax.specs.declared.array.ArrayDecl.{ArrayDecl}
 use Rattle.sial_syntax.specs.declared.array.ArrayKind.{ArrayKind}
 use Rattle.sial_syntax.specs.declared.array.ArrayKind.TheVariants.{Static, Temp, Local, Distributed, Served}
+use Rattle.sial_syntax.specs.declared.access.Class.{Class}
+use Rattle.sial_syntax.specs.declared.access.Class.TheVariants as class
 use Rattle.sial_syntax.specs.Boxes.{volume, place_of, tuple_at}
 
 -- where something lies: its first position, counted from 1, and how many positions it has
@@ -155,6 +157,13 @@ same_kind Local Local = true
 same_kind Distributed Distributed = true
 same_kind Served Served = true
 same_kind _ _ = false
+
+-- whether two classes of shared array are one
+abbrev pub same_class : Class → Class → Bool
+same_class class.Distributed class.Distributed = true
+same_class class.Distributed class.Served = false
+same_class class.Served class.Distributed = false
+same_class class.Served class.Served = true
 
 -- how many blocks the arrays of a kind have together
 abbrev pub blocks_together : Spaces → ArrayKind → List ArrayDecl → ℕ

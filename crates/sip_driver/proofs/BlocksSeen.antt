@@ -11,7 +11,8 @@ use Rattle.sial_syntax.specs.declared.operand.Op.TheVariants.{Set, Add}
 use Rattle.sial_meaning.specs.Number.{plus}
 use Rattle.sial_meaning.specs.Right.{Plain, Shown, Side, Alone, assigned, product_at, shared_dims, dim_lengths, side_at, met, both}
 use Rattle.sial_meaning.specs.Sight.{Sight, element, position, itself_or, stands_for, word_at, lies_on, places_at}
-use Rattle.sip_driver.proofs.Places.{tuples-one, map-tuples, place-one, map-from, map-same, numbers-step}
+use Rattle.sial_syntax.proofs.BoxLemmas.{map-from, numbers-step}
+use Rattle.sip_driver.proofs.Places.{tuples-one, map-tuples, place-one, map-same}
 
 -- a number is itself
 pub same-self : (n : ℕ) → nat_eq n n ≡ true

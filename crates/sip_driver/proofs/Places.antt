@@ -1,8 +1,9 @@
 -- Boxes of one dimension, and blocks that lie on them.
-use Rattle.std.proofs.Common.{◌≡◌, ℕ, zero, suc, ◌+◌, ◌<◌, ◌≤◌, List, [], ◌∷◌, map, length, replicate, slice_index_or, refl, sym, ap, ◌∙◌, arith, add-one, add-zero}
+use Rattle.std.proofs.Common.{◌≡◌, ℕ, zero, suc, ◌+◌, List, [], ◌∷◌, map, length, replicate, slice_index_or, refl, sym, ap, ◌∙◌, arith, add-one}
 use Rattle.std.proofs.lemmas.Simd.{map-map}
 use Rattle.std.specs.List.{flat_map}
 use Rattle.sial_syntax.specs.Boxes.{numbers_from, tuples, place_of}
+use Rattle.sial_syntax.proofs.BoxLemmas.{map-from, numbers-step}
 
 -- the tuples of one dimension are its numbers, each alone
 pub flat-alone : (ks : List ℕ) → flat_map (λ k. map (λ t. k ∷ t) ([] ∷ [])) ks ≡ map (λ (k : ℕ). k ∷ []) ks
@@ -22,22 +23,10 @@ map-tuples f (k ∷ ks) = ap (λ rest. f (k ∷ []) ∷ rest) (map-tuples f ks)
 pub place-one : (n k : ℕ) → place_of (n ∷ []) (k ∷ []) ≡ k
 place-one n k = omega arith
 
--- one f for each number of a row that agrees with another
-pub map-from : {X : Type 0} (f g : ℕ → X) (first n : ℕ) → ((k : ℕ) → first ≤ k → k < (first + n) → f k ≡ g k) → map f (numbers_from first n) ≡ map g (numbers_from first n)
-map-from f g first zero same = refl
-map-from f g first (suc n) same =
-    ap (λ x. x ∷ map f (numbers_from (first + 1) n)) (same first (omega arith) (omega arith))
-    ∙ ap (λ rest. g first ∷ rest) (map-from f g (first + 1) n (λ k from below. same k (omega (arith, from)) (omega (arith, below))))
-
 -- the same for each number of a row
 pub map-same : {X : Type 0} (x : X) (first n : ℕ) → map (λ (k : ℕ). x) (numbers_from first n) ≡ replicate n x
 map-same x first zero = refl
 map-same x first (suc n) = ap (λ rest. x ∷ rest) (map-same x (first + 1) n)
-
--- a row of numbers, each a step on
-pub numbers-step : (first n : ℕ) → map (λ (k : ℕ). k + 1) (numbers_from first n) ≡ numbers_from (first + 1) n
-numbers-step first zero = refl
-numbers-step first (suc n) = ap (λ rest. (first + 1) ∷ rest) (numbers-step (first + 1) n)
 
 -- a list read at each of its places
 pub map-read : {X Y : Type 0} (f : X → Y) (d : X) (xs : List X) → map (λ (k : ℕ). f (slice_index_or xs k d)) (numbers_from 0 (length xs)) ≡ map f xs
@@ -49,15 +38,3 @@ map-read f d (x ∷ xs) =
     ∙ (map-map (λ (k : ℕ). f (slice_index_or (x ∷ xs) k d)) (λ (k : ℕ). k + 1) (numbers_from 0 (length xs))
     ∙ (map-from (λ (k : ℕ). f (slice_index_or (x ∷ xs) (k + 1) d)) (λ (k : ℕ). f (slice_index_or xs k d)) 0 (length xs) (λ k from below. ap (λ j. f (slice_index_or (x ∷ xs) j d)) (add-one k))
     ∙ map-read f d xs)))
-
--- a row of numbers begins at another
-pub numbers-shift : (first n : ℕ) → map (λ (k : ℕ). first + k) (numbers_from 0 n) ≡ numbers_from first n
-numbers-shift first zero = refl
-numbers-shift first (suc n) =
-    ap (λ k. k ∷ map (λ (k : ℕ). first + k) (numbers_from (0 + 1) n)) (add-zero first)
-    ∙ ap
-    (λ rest. first ∷ rest)
-    (ap (map (λ (k : ℕ). first + k)) (sym (numbers-step 0 n))
-    ∙ (map-map (λ (k : ℕ). first + k) (λ (k : ℕ). k + 1) (numbers_from 0 n)
-    ∙ (map-from (λ (k : ℕ). first + (k + 1)) (λ (k : ℕ). (first + 1) + k) 0 n (λ k from below. omega arith)
-    ∙ numbers-shift (first + 1) n)))

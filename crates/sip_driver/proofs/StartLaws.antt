@@ -14,7 +14,8 @@ use Rattle.sial_meaning.specs.Statement.{Outcome, Present}
 use Rattle.sip_driver.specs.First.{Path, setting_of, spaces_of, IsPath, IsArray, OneBelow, printed_text, text_of, lines_of}
 use Rattle.sip_driver.specs.Running.{start_numbers, zero_blocks, segments_in, only_index, body_lines}
 use Rattle.sip_driver.proofs.FormLaws.{state_of, class-is}
-use Rattle.sip_driver.proofs.Places.{map-from, map-same, map-read, numbers-shift}
+use Rattle.sial_syntax.proofs.BoxLemmas.{map-from, numbers-shift}
+use Rattle.sip_driver.proofs.Places.{map-same, map-read}
 use Rattle.sip_driver.proofs.Sequential.{body_law, span-is, one_below}
 use Rattle.sip_driver.proofs.StartLemmas.{fits_start}
 

@@ -1,23 +1,12 @@
 -- The numbers of a run as it begins have the shape of their program.
-use Rattle.std.proofs.Common.{◌≡◌, ℕ, zero, suc, ◌+◌, ◌<◌, List, [], map, length, replicate, slice_index_or, refl, sym, ap, ◌∙◌, subst, arith}
+use Rattle.std.proofs.Common.{◌≡◌, ℕ, ◌<◌, List, [], map, length, replicate, slice_index_or, sym, ap, ◌∙◌, subst}
 use Rattle.std.proofs.lemmas.List.{length-replicate, length-map, get_or-map}
-use Rattle.sial_syntax.specs.Boxes.{numbers_from}
+use Rattle.sial_syntax.proofs.BoxLemmas.{numbers-length, numbers-read}
 use Rattle.sial_syntax.specs.Spaces.{first_of, count_of, among}
 use Rattle.sial_syntax.specs.declared.array.ArrayKind.TheVariants.{Static}
 use Rattle.sip_driver.specs.First.{Path, spaces_of}
 use Rattle.sip_driver.specs.Ran.{Fits, index_of}
 use Rattle.sip_driver.specs.Running.{start_numbers, zero_blocks, segments_in}
-
--- so many numbers in a row
-pub length-numbers_from : (first n : ℕ) → length (numbers_from first n) ≡ n
-length-numbers_from first zero = refl
-length-numbers_from first (suc n) = ap suc (length-numbers_from (first + 1) n)
-
--- a number in a row
-pub get_or-numbers_from : (first n i d : ℕ) → i < n → slice_index_or (numbers_from first n) i d ≡ first + i
-get_or-numbers_from first zero i d within = absurd (omega (arith, within))
-get_or-numbers_from first (suc n) zero d within = omega arith
-get_or-numbers_from first (suc n) (suc i) d within = get_or-numbers_from (first + 1) n i d (omega (arith, within)) ∙ omega arith
 
 -- the numbers as a run begins fit
 pub fits_start : (path : Path) → Fits path (start_numbers path)
@@ -25,12 +14,12 @@ fits_start path = record {
   values = length-replicate (length path.program.indices) 0;
   scalars = length-replicate (length path.program.scalars) 0;
   arrays = length-map path.program.arrays (zero_blocks path);
-  blocks = λ array within. ap length (at_array array within) ∙ (length-map (segments_in path (index_of path array)) (λ k. replicate (among path.lengths k).len 0) ∙ length-numbers_from (first_of (spaces_of path) (index_of path array)) (count_of (spaces_of path) (index_of path array)));
+  blocks = λ array within. ap length (at_array array within) ∙ (length-map (segments_in path (index_of path array)) (λ k. replicate (among path.lengths k).len 0) ∙ numbers-length (first_of (spaces_of path) (index_of path array)) (count_of (spaces_of path) (index_of path array)));
   words = λ array number within below.
       ap (λ (blocks : List (List ℕ)). length (slice_index_or blocks number [])) (at_array array within)
-      ∙ (ap length (get_or-map (λ (k : ℕ). replicate (among path.lengths k).len 0) (segments_in path (index_of path array)) number 0 [] (subst (λ n. number < n) (sym (length-numbers_from (first_of (spaces_of path) (index_of path array)) (count_of (spaces_of path) (index_of path array)))) below))
+      ∙ (ap length (get_or-map (λ (k : ℕ). replicate (among path.lengths k).len 0) (segments_in path (index_of path array)) number 0 [] (subst (λ n. number < n) (sym (numbers-length (first_of (spaces_of path) (index_of path array)) (count_of (spaces_of path) (index_of path array)))) below))
       ∙ (length-replicate (among path.lengths (slice_index_or (segments_in path (index_of path array)) number 0)).len 0
-      ∙ ap (λ k. (among path.lengths k).len) (get_or-numbers_from (first_of (spaces_of path) (index_of path array)) (count_of (spaces_of path) (index_of path array)) number 0 below)));
+      ∙ ap (λ k. (among path.lengths k).len) (numbers-read (first_of (spaces_of path) (index_of path array)) (count_of (spaces_of path) (index_of path array)) number 0 below)));
 }
   where
     at_array : (array : ℕ) → array < length path.program.arrays → slice_index_or (start_numbers path).statics array [] ≡ map (λ k. replicate (among path.lengths k).len 0) (segments_in path (index_of path array))
