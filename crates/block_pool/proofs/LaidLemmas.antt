@@ -5,11 +5,12 @@ use Rattle.std.proofs.lemmas.List.{get_or_append_left, get_or-append-add, get_or
 use Rattle.block_pool.specs.declared.slots.Group.{Group}
 use Rattle.block_pool.specs.declared.state.State.TheVariants.{Free}
 use Rattle.block_pool.specs.Memory.{state_at}
-use Rattle.block_pool.specs.Occupied.{IsIn, IsTied, group_at, first_of, table_of, room_of}
-use Rattle.block_pool.specs.Laid.{IsLaid, members}
+use Rattle.block_pool.specs.Surplus.{IsVacantBelow}
+use Rattle.block_pool.specs.Occupied.{IsIn, IsTied, group_at, first_of, table_of, room_of, members}
+use Rattle.block_pool.specs.Laid.{IsLaid}
 use Rattle.block_pool.proofs.Members.{free_slots-replicate, members-append, members-replicate_same, members-replicate_other, members-none}
 
-module _ (gs : List Group) (cs : List ℕ) (laid : IsLaid gs cs) (v : Group) (n : ℕ) (first : v.first ≡ length cs) (room : v.table.capacity ≡ n) (empty : v.table.slots ≡ [])
+module _ (gs : List Group) (cs : List ℕ) (laid : IsLaid gs cs) (v : Group) (n : ℕ) (first : v.first ≡ length cs) (room : v.count ≡ n) (vacant : IsVacantBelow v.table n)
     (fits : n < 2 ^ 32) where
   abbrev more : List Group
   more = gs ++ v ∷ []
@@ -39,7 +40,7 @@ module _ (gs : List Group) (cs : List ℕ) (laid : IsLaid gs cs) (v : Group) (n 
 
   -- how long they are
   old_room : (g : ℕ) → g < length gs → room_of more g ≡ room_of gs g
-  old_room g h = ap (λ (x : Group). x.table.capacity) (old g h)
+  old_room g h = ap (λ (x : Group). x.count) (old g h)
 
   -- their slabs
   old_table : (g : ℕ) → g < length gs → table_of more g ≡ table_of gs g
@@ -51,7 +52,7 @@ module _ (gs : List Group) (cs : List ℕ) (laid : IsLaid gs cs) (v : Group) (n 
 
   -- how long it is
   new_room : room_of more (length gs) ≡ n
-  new_room = ap (λ (x : Group). x.table.capacity) new ∙ room
+  new_room = ap (λ (x : Group). x.count) new ∙ room
 
   -- a fact of each group, old or new
   by_group : (P : ℕ → Type 0) → ((g : ℕ) → g < length gs → P g) → P (length gs) → (g : ℕ) → g < length more → P g
@@ -104,9 +105,11 @@ module _ (gs : List Group) (cs : List ℕ) (laid : IsLaid gs cs) (v : Group) (n 
       (λ g h k low. rw (old_first g h) (let few : k < room_of gs g = rw (old_room g h) at low in class_old _ (laid.within g k h few) ∙ laid.named g k h few))
       (λ k low. rw new_first (class_new k (rw new_room at low)))
 
-  -- no slab has a value
-  is_empty : (g : ℕ) → g < length more → (table_of more g).slots ≡ []
-  is_empty = by_group (λ g. (table_of more g).slots ≡ []) (λ g h. rw (old_table g h) (laid.empty g h)) (ap (λ (x : Group). x.table.slots) new ∙ empty)
+  -- just the keys of the runs are vacant
+  is_vacant : (g : ℕ) → g < length more → IsVacantBelow (table_of more g) (room_of more g)
+  is_vacant = by_group (λ g. IsVacantBelow (table_of more g) (room_of more g))
+      (λ g h. rw (old_table g h, old_room g h) (laid.vacant g h))
+      (rw (ap (λ (x : Group). x.table) new, new_room) vacant)
 
   -- each run has all slots of its class
   count : (g : ℕ) → g < length more → members g all ≡ room_of more g
@@ -132,7 +135,7 @@ module _ (gs : List Group) (cs : List ℕ) (laid : IsLaid gs cs) (v : Group) (n 
     home = home;
     within = λ g k h low. within g h k low;
     named = λ g k h low. named g h k low;
-    empty = is_empty;
+    vacant = is_vacant;
     count = count;
     fits = small;
   }
@@ -149,7 +152,7 @@ laid_none = record {
   home = λ slot h. absurd (omega arith);
   within = λ g k h low. absurd (omega arith);
   named = λ g k h low. absurd (omega arith);
-  empty = λ g h. absurd (omega arith);
+  vacant = λ g h. absurd (omega arith);
   count = λ g h. absurd (omega arith);
   fits = λ g h. absurd (omega arith);
 }
@@ -161,7 +164,8 @@ tied_at_first gs cs laid = record {
   home = laid.home;
   within = laid.within;
   named = laid.named;
-  taken = λ g k h low. rw (laid.empty g h, state-replicate (length cs) (first_of gs g + k)) refl;
-  count = λ g h. rw (laid.empty g h, free_slots-replicate g cs) (omega (arith, laid.count g h));
-  fits = laid.fits;
+  taken = λ g k h low. rw (state-replicate (length cs) (first_of gs g + k)) ((laid.vacant g h).vacant k low);
+  surplus = λ g h. (laid.vacant g h).surplus;
+  count = λ g h. rw (free_slots-replicate g cs) (omega (arith, laid.count g h, (laid.vacant g h).len));
+  fits = λ g h. rw (laid.count g h) (laid.fits g h);
 }

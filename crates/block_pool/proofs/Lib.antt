@@ -5,6 +5,7 @@ pub mod MixedRows
 pub mod RowPlaces
 pub mod FreeSlots
 pub mod OccupiedLemmas
+pub mod SurplusLemmas
 pub mod Members
 pub mod LaidLemmas
 pub mod Taking

@@ -2,9 +2,10 @@
 use Rattle.std.proofs.Common.{◌≡◌, ◌≢◌, ℕ, zero, suc, ◌+◌, ◌-◌, ◌<◌, ◌≤◌, inl, inr, true, false, Bool, List, [], ◌∷◌, ◌++◌, length, get_or, replicate, refl, ◌∙◌, arith, eq-eqb, ne_eqb}
 use Rattle.std.specs.Prelude.{◌==◌, ◌&&◌}
 use Rattle.std.proofs.lemmas.Bool.{cases_eq}
+use Rattle.block_pool.specs.declared.state.State.{State}
 use Rattle.block_pool.specs.declared.state.State.TheVariants.{Free}
-use Rattle.block_pool.specs.Memory.{free_slots}
-use Rattle.block_pool.specs.Laid.{members}
+use Rattle.block_pool.specs.Memory.{free_slots, one_if, is_free}
+use Rattle.block_pool.specs.Occupied.{members}
 use Rattle.block_pool.specs.Opened.{classes_from}
 
 -- a test beside one that holds
@@ -16,6 +17,18 @@ and_true false = refl
 pub free_slots-replicate : (g : ℕ) (cs : List ℕ) → free_slots g cs (replicate (length cs) Free) ≡ members g cs
 free_slots-replicate g [] = refl
 free_slots-replicate g (c ∷ cs) = rw (and_true (c == g), free_slots-replicate g cs) refl
+
+-- as many at most as pass a stronger test
+one_if-and : (b c : Bool) → one_if (b && c) ≤ one_if b
+one_if-and true true = omega arith
+one_if-and true false = omega arith
+one_if-and false c = omega arith
+
+-- no more slots of a class are free than there are
+pub free_slots-members : (g : ℕ) (cs : List ℕ) (ss : List State) → free_slots g cs ss ≤ members g cs
+free_slots-members g [] ss = omega arith
+free_slots-members g (c ∷ cs) [] = omega arith
+free_slots-members g (c ∷ cs) (s ∷ ss) = omega (arith, free_slots-members g cs ss, one_if-and (c == g) (is_free s))
 
 -- two runs
 pub members-append : (g : ℕ) (xs ys : List ℕ) → members g (xs ++ ys) ≡ members g xs + members g ys

@@ -1,8 +1,8 @@
 -- The slabs of the classes, as slots are taken and given back.
-use Rattle.std.proofs.Common.{◌≡◌, ◌≢◌, ℕ, ◌+◌, ◌<◌, ◌≤◌, inl, inr, true, false, List, length, get_or, set, refl, ap, sym, ◌∙◌, arith, length-set, Option, Some, None, is_some, not, eq-eqb, ne_eqb, ltb, ◌-◌}
+use Rattle.std.proofs.Common.{◌≡◌, ◌≢◌, ℕ, ◌+◌, ◌<◌, ◌≤◌, inl, inr, true, false, List, length, get_or, set, refl, ap, sym, ◌∙◌, arith, length-set, Option, Some, None, is_some, not, eq-eqb, ne_eqb, ltb, ◌-◌, ◌^◌}
 use borrow.Author.Tests.{ltb-true, ltb-false}
 use Rattle.std.specs.Prelude.{◌==◌}
-use Rattle.std.proofs.lemmas.Bool.{cases_eq, cases_Bool}
+use Rattle.std.proofs.lemmas.Bool.{cases_eq, cases_lt, cases_Bool}
 use Rattle.std.proofs.lemmas.List.{get_or-set_same, get_or-set_other, get_or_default, set-get_or}
 use Rattle.std.specs.Option.{OnSome}
 use Rattle.slab.specs.Slab.{Slab, get, slab_len, Updates, HasRoomFor}
@@ -10,22 +10,24 @@ use Rattle.block_pool.specs.declared.state.State.{State}
 use Rattle.block_pool.specs.declared.state.State.TheVariants.{Free, Own, Await, Keep, Send, Lift}
 use Rattle.block_pool.specs.declared.slots.Group.{Group}
 use Rattle.block_pool.specs.Memory.{state_at, is_free, free_slots, one_if}
+use Rattle.block_pool.specs.Surplus.{HoldsSurplus}
 use Rattle.block_pool.specs.Occupied.{IsTied, IsIn, group_at, first_of, table_of, room_of}
 use Rattle.block_pool.proofs.FreeSlots.{free_slots-set, free_slots-none}
+use Rattle.block_pool.proofs.Members.{free_slots-members}
 
 -- one slot has another state, and its key another value
 module _ (gs : List Group) (cs : List ℕ) (ss : List State) (tied : IsTied gs cs ss) (g k : ℕ) (known : g < length gs) (key : k < room_of gs g)
     (s : State) (o : Option (Unit {0})) (t : Slab (Unit {0})) (updates : Updates (table_of gs g) t k o) (taken : is_some o ≡ not (is_free s))
-    (room : t.capacity ≡ room_of gs g)
+    (room : t.capacity ≡ (table_of gs g).capacity)
     (count : slab_len t + one_if (is_free s) ≡ slab_len (table_of gs g) + one_if (is_free (state_at ss (first_of gs g + k)))) where
   abbrev slot : ℕ
   slot = first_of gs g + k
 
   abbrev after : List Group
-  after = set gs g (record { first = first_of gs g; table = t })
+  after = set gs g (record { first = first_of gs g; count = room_of gs g; table = t })
 
   -- the group is the new one
-  group_here : group_at after g ≡ record { first = first_of gs g; table = t }
+  group_here : group_at after g ≡ record { first = first_of gs g; count = room_of gs g; table = t }
   group_here = get_or-set_same gs g _ _ known
 
   -- the other groups are as before
@@ -50,6 +52,13 @@ module _ (gs : List Group) (cs : List ℕ) (ss : List State) (tied : IsTied gs c
   -- and are as long
   same_room : (h : ℕ) → room_of after h ≡ room_of gs h
   same_room h = elim (cases_eq h g) as (λ _. room_of after h ≡ room_of gs h) [
+    | inl e ↦ rw e (ap (λ (x : Group). x.count) group_here)
+    | inr ne ↦ ap (λ (x : Group). x.count) (group_other h ne)
+  ]
+
+  -- and their slabs have as many keys
+  same_capacity : (h : ℕ) → (table_of after h).capacity ≡ (table_of gs h).capacity
+  same_capacity h = elim (cases_eq h g) as (λ _. (table_of after h).capacity ≡ (table_of gs h).capacity) [
     | inl e ↦ rw e (ap (λ (x : Group). x.table.capacity) group_here ∙ room)
     | inr ne ↦ ap (λ (x : Group). x.table.capacity) (group_other h ne)
   ]
@@ -83,12 +92,23 @@ module _ (gs : List Group) (cs : List ℕ) (ss : List State) (tied : IsTied gs c
         )
   ]
 
+  -- the surplus keys stay taken
+  surplus_after : (h : ℕ) → h < length gs → HoldsSurplus (table_of after h) (room_of gs h)
+  surplus_after h kh = elim (cases_eq h g) as (λ _. HoldsSurplus (table_of after h) (room_of gs h)) [
+    | inl e ↦ λ j past low. (
+        let past_g : room_of gs g ≤ j = rw e at past in
+        let low_g : j < (table_of gs g).capacity = rw e at (rw (same_capacity h) at low) in
+        rw (e, table_here, updates.others j (λ z. absurd (omega arith))) (tied.surplus g known j past_g low_g)
+        )
+    | inr ne ↦ rw (table_other h ne) (tied.surplus h kh)
+  ]
+
   -- and the counts add up
-  count_after : (h : ℕ) → h < length gs → slab_len (table_of after h) + free_slots h cs (set ss slot s) ≡ room_of gs h
+  count_after : (h : ℕ) → h < length gs → slab_len (table_of after h) + free_slots h cs (set ss slot s) ≡ (table_of gs h).capacity
   count_after h kh =
       let change = free_slots-set h cs ss slot s within listed in
       let was = tied.count h kh in
-      elim (cases_eq h g) as (λ _. slab_len (table_of after h) + free_slots h cs (set ss slot s) ≡ room_of gs h) [
+      elim (cases_eq h g) as (λ _. slab_len (table_of after h) + free_slots h cs (set ss slot s) ≡ (table_of gs h).capacity) [
         | inl e ↦ (
             let test : (get_or cs slot 0 == h) ≡ true = eq-eqb (get_or cs slot 0) h (class_here ∙ sym e) in
             let step = rw test at change in
@@ -116,8 +136,9 @@ module _ (gs : List Group) (cs : List ℕ) (ss : List State) (tied : IsTied gs c
     within = λ h j kh kj. rw (same_first h) (tied.within h j (rw length-set at kh) (rw (same_room h) at kj));
     named = λ h j kh kj. rw (same_first h) (tied.named h j (rw length-set at kh) (rw (same_room h) at kj));
     taken = λ h j kh kj. rw (same_first h) (taken_after h j (rw length-set at kh) (rw (same_room h) at kj));
-    count = λ h kh. rw (same_room h) (count_after h (rw length-set at kh));
-    fits = λ h kh. rw (same_room h) (tied.fits h (rw length-set at kh));
+    surplus = λ h kh. rw (same_room h) (surplus_after h (rw length-set at kh));
+    count = λ h kh. rw (same_capacity h) (count_after h (rw length-set at kh));
+    fits = λ h kh. tied.fits h (rw length-set at kh);
   }
 
 -- no slot is of a class past the pool's
@@ -139,6 +160,10 @@ vacant_is_free Await e = absurd (cc)
 vacant_is_free Keep e = absurd (cc)
 vacant_is_free Send e = absurd (cc)
 vacant_is_free Lift e = absurd (cc)
+
+-- a u32 counts the free slots of a class
+pub free_fits : (gs : List Group) (cs : List ℕ) (ss : List State) (g : ℕ) → IsTied gs cs ss → g < length gs → (table_of gs g).capacity - slab_len (table_of gs g) < 2 ^ 32
+free_fits gs cs ss g tied known = omega (arith, tied.count g known, tied.fits g known, free_slots-members g cs ss)
 
 -- a group that was read
 pub group_read : (gs : List Group) (g : ℕ) (v : Group) → g < length gs → v ≡ get_or gs g v → v ≡ group_at gs g
@@ -166,9 +191,16 @@ module _ (gs : List Group) (cs : List ℕ) (ss : List State) (g key : ℕ) (v : 
   group_is : v ≡ group_at gs g
   group_is = group_read gs g v known read
 
-  -- the key is one of the run
+  -- the key is no surplus key, so it is one of the run
   key_low : key < room_of gs g
-  key_low = let same : t.capacity ≡ room_of gs g = room ∙ ap (λ (x : Group). x.table.capacity) group_is in omega arith
+  key_low = elim (cases_lt key (room_of gs g)) as (λ _. key < room_of gs g) [
+    | inl low_key ↦ low_key
+    | inr past ↦ absurd (
+        let within : key < (table_of gs g).capacity = rw (room ∙ ap (λ (x : Group). x.table.capacity) group_is) at low in
+        let none : get (table_of gs g) key ≡ None = rw group_is at vacant in
+        cc (tied.surplus g known key past within, ap is_some none)
+        )
+  ]
 
   -- so the slot is one of the run
   same_slot : v.first + key ≡ first_of gs g + key
@@ -192,7 +224,7 @@ module _ (gs : List Group) (cs : List ℕ) (ss : List State) (g key : ℕ) (v : 
 
   -- the slabs tell that it is taken
   pub tied_taken : (s : State) → is_free s ≡ false → Updates v.table t key (Some tt) → slab_len t ≡ slab_len v.table + 1
-      → IsTied (set gs g (record { first = v.first; table = t })) cs (set ss (v.first + key) s)
+      → IsTied (set gs g (record { first = v.first; count = v.count; table = t })) cs (set ss (v.first + key) s)
   tied_taken s not_free updates longer =
       let updates1 : Updates (table_of gs g) t key (Some tt) = rw group_is at updates in
       let longer1 : slab_len t ≡ slab_len (table_of gs g) + 1 = rw group_is at longer in
@@ -234,7 +266,7 @@ module _ (gs : List Group) (cs : List ℕ) (ss : List State) (slot g : ℕ) (tie
   -- was given back
   pub tied_freed : (v : Group) (t : Slab (Unit {0})) (o : Option (Unit {0})) → v ≡ get_or gs g v → o ≡ get v.table (slot - v.first) → Updates v.table t (slot - v.first) None
       → OnSome o (slab_len t + 1 ≡ slab_len v.table) → t.capacity ≡ v.table.capacity
-      → IsTied (set gs g (record { first = v.first; table = t })) cs (set ss slot Free)
+      → IsTied (set gs g (record { first = v.first; count = v.count; table = t })) cs (set ss slot Free)
   tied_freed v t o read found updates shorter room =
       let group_is : v ≡ group_at gs g = group_read gs g v held_known read in
       let found1 : o ≡ get (table_of gs g) (slot - first_of gs g) = rw group_is at found in

@@ -3,6 +3,7 @@ pub mod Changes
 pub mod Standing
 pub mod Mixed
 pub mod Opened
+pub mod Surplus
 pub mod Occupied
 pub mod Laid
 pub mod Cut

@@ -2,16 +2,18 @@
 
 ghost use Rattle.std.specs.Prelude.{◌≡◌, ◌+◌, ◌<◌, ◌++◌, ◌≤◌, [], false, length, replicate, slice_index, slice_set, sum, IfOk, OnOk};
 ghost use Rattle.block_pool.specs.Memory.{state_at, is_free, free_slots};
+ghost use Rattle.block_pool.specs.Surplus.{IsVacantBelow};
 
 use crate::state::State;
 use slab::Slab;
 use std::alloc::{AllocError, Global};
 use std::marker::Model;
 
-/// The run of slots of one class; a key of its slab is a slot of the run.
+/// The run of slots of one class; a key of its slab below the count is a slot of the run.
 #[derive(Drop)]
 pub(crate) struct Group {
     first: usize,
+    count: u32,
     table: Slab<()>,
 }
 
@@ -47,8 +49,8 @@ impl Slots {
         let mut classes = Vec::with_capacity(alloc, count_slots(counts))?;
         for at in 0..counts.len() {
             let group = new_group(alloc, classes.len(), counts[at])?;
+            add_class(&mut classes, at as u32, group.count)?;
             groups.push(group)?;
-            add_class(&mut classes, at as u32, counts[at])?;
         }
         let states = vec![in alloc; State::Free; classes.len()]?;
         Ok(Slots {
@@ -58,7 +60,7 @@ impl Slots {
         })
     }
 
-    // How many slots of a class are free.
+    // How many slots of a class are free: each vacant key of its slab is one.
     pub(crate) fn free(&self, class: u32) -> u32
         ensures { result ≡ free_slots class self.now.classes self.now.states }
     {
@@ -113,17 +115,43 @@ fn count_slots(counts: &[u32]) -> usize
     counts.iter().map(|count| *count as usize).sum()
 }
 
-// An empty slab of exactly this room.
+// A run of so many slots, all free.
 fn new_group(alloc: Global, first: usize, count: u32) -> Result<Group, AllocError>
     ensures first { IfOk result (λ g. g.first ≡ first) }
-    ensures room { IfOk result (λ g. g.table.capacity ≡ count) }
-    ensures empty { IfOk result (λ g. g.table.slots ≡ []) }
+    ensures count { IfOk result (λ g. g.count ≡ count) }
+    ensures vacant { IfOk result (λ g. IsVacantBelow g.table count) }
 {
-    let table = Slab::with_capacity(alloc, count as usize)?;
-    if table.capacity() != count as usize {
-        return Err(AllocError);
+    // A slab may have room for more than it was asked for.
+    let mut table = Slab::with_capacity(alloc, count as usize)?;
+    if table.capacity() > count as usize {
+        take_surplus(&mut table, count as usize);
     }
-    Ok(Group { first, table })
+    Ok(Group {
+        first,
+        count,
+        table,
+    })
+}
+
+// Takes the surplus keys of a slab, those from a count on, for good.
+fn take_surplus(table: &mut Slab<()>, count: usize)
+    requires { count ≤ table.old.capacity }
+    ensures { IsVacantBelow table.new count }
+{
+    take_all(table);
+    for key in 0..count {
+        let _ = table.try_remove(key);
+    }
+}
+
+// Takes every key of a slab.
+fn take_all(table: &mut Slab<()>)
+    ensures taken { IsVacantBelow table.new 0 }
+    ensures capacity { table.new.capacity ≡ table.old.capacity }
+{
+    while table.len() < table.capacity() {
+        table.insert_reserved(());
+    }
 }
 
 // So many slots of a class after the others.

@@ -9,14 +9,15 @@ loop-at-preserved c =
     let i = c.loop-at.invariant in
     let g = c.in_ok-group.ensures in
     let items : c.push.new.self.items ≡ c.loop-at.groups.items ++ c.in_ok-group.group ∷ [] = c.in_ok-push.ensures.items in
+    let added = rw g.count at c.in_ok-add_class.ensures in
     let few : slice_index c.args.counts.now c.loop-at.at < 2 ^ 32 = search rules in
     let first : c.in_ok-group.group.first ≡ length c.loop-at.classes.items = search rules in
     let within : c.loop-at.at < length c.args.counts.now = omega arith in
-    let more = laid_push c.loop-at.groups.items c.loop-at.classes.items i.laid c.in_ok-group.group (slice_index c.args.counts.now c.loop-at.at) first g.room g.empty few in
+    let more = laid_push c.loop-at.groups.items c.loop-at.classes.items i.laid c.in_ok-group.group (slice_index c.args.counts.now c.loop-at.at) first g.count g.vacant few in
     record {
-      laid = rw (items, c.in_ok-add_class.ensures) (rw i.groups at more);
+      laid = rw (items, added) (rw i.groups at more);
       groups = ap length items ∙ (length_push c.loop-at.groups.items _ ∙ ap (λ n. n + 1) i.groups);
-      classes = rw (c.in_ok-add_class.ensures, append_assoc) (rw (drop_more c.args.counts.now c.loop-at.at 0 within) at i.classes);
+      classes = rw (added, append_assoc) (rw (drop_more c.args.counts.now c.loop-at.at 0 within) at i.classes);
     }
 
 pub invariant_of-result : goal.invariant_of-result
