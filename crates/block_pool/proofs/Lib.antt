@@ -4,6 +4,7 @@ pub mod RunsLemmas
 pub mod MixedRows
 pub mod RowPlaces
 pub mod FreeSlots
+pub mod VacantLemmas
 pub mod OccupiedLemmas
 pub mod SurplusLemmas
 pub mod Members

@@ -1,19 +1,18 @@
 -- The slabs of the classes, as slots are taken and given back.
-use Rattle.std.proofs.Common.{◌≡◌, ◌≢◌, ℕ, ◌+◌, ◌<◌, ◌≤◌, inl, inr, true, false, List, length, get_or, set, refl, ap, sym, ◌∙◌, arith, length-set, Option, Some, None, is_some, not, eq-eqb, ne_eqb, ltb, ◌-◌, ◌^◌}
-use borrow.Author.Tests.{ltb-true, ltb-false}
+use Rattle.std.proofs.Common.{◌≡◌, ◌≢◌, ℕ, ◌+◌, ◌<◌, ◌≤◌, inl, inr, true, false, List, length, get_or, set, refl, ap, sym, ◌∙◌, arith, length-set, Option, Some, None, is_some, not, eq-eqb, ne_eqb, ◌-◌}
 use Rattle.std.specs.Prelude.{◌==◌}
-use Rattle.std.proofs.lemmas.Bool.{cases_eq, cases_lt, cases_Bool}
-use Rattle.std.proofs.lemmas.List.{get_or-set_same, get_or-set_other, get_or_default, set-get_or}
+use Rattle.std.proofs.lemmas.Bool.{cases_eq, cases_lt}
+use Rattle.std.proofs.lemmas.List.{get_or-set_same, get_or-set_other, set-get_or}
 use Rattle.std.specs.Option.{OnSome}
-use Rattle.slab.specs.Slab.{Slab, get, slab_len, Updates, HasRoomFor}
+use Rattle.slab.specs.Slab.{Slab, get, slab_len, Updates}
 use Rattle.block_pool.specs.declared.state.State.{State}
-use Rattle.block_pool.specs.declared.state.State.TheVariants.{Free, Own, Await, Keep, Send, Lift}
+use Rattle.block_pool.specs.declared.state.State.TheVariants.{Free}
 use Rattle.block_pool.specs.declared.slots.Group.{Group}
 use Rattle.block_pool.specs.Memory.{state_at, is_free, free_slots, one_if}
 use Rattle.block_pool.specs.Surplus.{HoldsSurplus}
 use Rattle.block_pool.specs.Occupied.{IsTied, IsIn, group_at, first_of, table_of, room_of}
-use Rattle.block_pool.proofs.FreeSlots.{free_slots-set, free_slots-none}
-use Rattle.block_pool.proofs.Members.{free_slots-members}
+use Rattle.block_pool.proofs.FreeSlots.{free_slots-set}
+use Rattle.block_pool.proofs.VacantLemmas.{known_class, vacant_is_free, group_read, on_some}
 
 -- one slot has another state, and its key another value
 module _ (gs : List Group) (cs : List ℕ) (ss : List State) (tied : IsTied gs cs ss) (g k : ℕ) (known : g < length gs) (key : k < room_of gs g)
@@ -140,45 +139,6 @@ module _ (gs : List Group) (cs : List ℕ) (ss : List State) (tied : IsTied gs c
     count = λ h kh. rw (same_capacity h) (count_after h (rw length-set at kh));
     fits = λ h kh. tied.fits h (rw length-set at kh);
   }
-
--- no slot is of a class past the pool's
-pub unknown_class : (gs : List Group) (cs : List ℕ) (ss : List State) (g : ℕ) → IsTied gs cs ss → length gs ≤ g → free_slots g cs ss ≡ 0
-unknown_class gs cs ss g tied past = free_slots-none g cs ss (λ slot h. let known = (tied.home slot h).known in omega arith)
-
--- a class with a free slot is one of the pool's
-pub known_class : (gs : List Group) (cs : List ℕ) (ss : List State) (g : ℕ) → IsTied gs cs ss → 0 < free_slots g cs ss → g < length gs
-known_class gs cs ss g tied some = elim (cases_Bool (ltb g (length gs))) as (λ _. g < length gs) [
-  | inl low ↦ ltb-true g (length gs) low
-  | inr high ↦ absurd (let none : free_slots g cs ss ≡ 0 = unknown_class gs cs ss g tied (ltb-false g (length gs) high) in omega arith)
-]
-
--- a slot whose key is vacant is free
-pub vacant_is_free : (s : State) → false ≡ not (is_free s) → s ≡ Free
-vacant_is_free Free e = refl
-vacant_is_free Own e = absurd (cc)
-vacant_is_free Await e = absurd (cc)
-vacant_is_free Keep e = absurd (cc)
-vacant_is_free Send e = absurd (cc)
-vacant_is_free Lift e = absurd (cc)
-
--- a u32 counts the free slots of a class
-pub free_fits : (gs : List Group) (cs : List ℕ) (ss : List State) (g : ℕ) → IsTied gs cs ss → g < length gs → (table_of gs g).capacity - slab_len (table_of gs g) < 2 ^ 32
-free_fits gs cs ss g tied known = omega (arith, tied.count g known, tied.fits g known, free_slots-members g cs ss)
-
--- a group that was read
-pub group_read : (gs : List Group) (g : ℕ) (v : Group) → g < length gs → v ≡ get_or gs g v → v ≡ group_at gs g
-group_read gs g v known read = read ∙ get_or_default gs g v _ known
-
--- what is said where there is a value
-on_some : {A : Type 0} {P : Type 0} (o : Option A) → is_some o ≡ true → OnSome o P → P
-on_some None e p = absurd (cc)
-on_some (Some x) e p = p
-
--- a class with a free slot has a vacant key
-pub has_room : (gs : List Group) (cs : List ℕ) (ss : List State) (g : ℕ) (v : Group) → IsTied gs cs ss → 0 < free_slots g cs ss → v ≡ get_or gs g v → HasRoomFor v.table 1
-has_room gs cs ss g v tied some read =
-    let known : g < length gs = known_class gs cs ss g tied some in
-    rw (group_read gs g v known read) (omega (arith, tied.count g known))
 
 -- a free slot was taken
 module _ (gs : List Group) (cs : List ℕ) (ss : List State) (g key : ℕ) (v : Group) (t : Slab (Unit {0})) (tied : IsTied gs cs ss)

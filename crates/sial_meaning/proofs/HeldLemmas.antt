@@ -29,7 +29,7 @@ use Rattle.sial_meaning.proofs.GrantedVisits.{Good}
 use Rattle.sial_meaning.proofs.FitLemmas.{Fit, placed}
 use Rattle.sial_meaning.proofs.PairLemmas.{never, first-holds, both-hold, holds-so}
 use Rattle.sial_meaning.proofs.RangeLemmas.{InRange}
-use Rattle.sial_meaning.proofs.WholeEffects.{answer-one}
+use Rattle.sial_meaning.proofs.SameLemmas.{answer-one}
 use Rattle.sial_meaning.proofs.WholeRest.{GoodWork, GoodAt}
 use Rattle.sial_meaning.proofs.WholeSteps.{steps-lead}
 use Rattle.sial_meaning.proofs.WholeStatements.{fit-target}

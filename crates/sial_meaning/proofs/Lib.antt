@@ -17,6 +17,8 @@ pub mod SegmentLemmas
 pub mod LookLemmas
 pub mod WholeLemmas
 pub mod GrantedVisits
+pub mod SameLemmas
+pub mod DeclaredLemmas
 pub mod RangeLemmas
 pub mod FitLemmas
 pub mod OwnLemmas

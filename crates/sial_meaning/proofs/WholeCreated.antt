@@ -20,7 +20,8 @@ use Rattle.sial_meaning.proofs.OwnLemmas.{row-long}
 use Rattle.sial_meaning.proofs.PairLemmas.{never, holds-so}
 use Rattle.sial_meaning.proofs.RangeLemmas.{InRange}
 use Rattle.sial_meaning.proofs.RunLemmas.{run-long, run-other, run-same, declared-array, within-class, apart-in-class}
-use Rattle.sial_meaning.proofs.WholeEffects.{kind-one, array-right, put-whole, prepare-whole}
+use Rattle.sial_meaning.proofs.SameLemmas.{kind-one}
+use Rattle.sial_meaning.proofs.WholeEffects.{array-right, put-whole, prepare-whole}
 use Rattle.sial_meaning.proofs.WholeStatements.{WholeTo, DoneWhole, reads-same, reads-whole, step-done, local-whole-to, scalars-whole}
 use Rattle.sial_meaning.proofs.ControlLemmas.{each-long}
 

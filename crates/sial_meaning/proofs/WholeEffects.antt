@@ -1,5 +1,5 @@
 -- Effects on shared blocks leave a whole state.
-use Rattle.std.proofs.Common.{◌≡◌, ℕ, suc, ◌+◌, inl, inr, List, [], ◌∷◌, ◌++◌, zip, length, slice_index_or, slice_set, Bool, true, false, ◌==◌, ◌&&◌, ◌||◌, not, if◌then◌else◌, Option, Some, None, Ok, Err, refl, sym, ap, ◌∙◌, eqb-true, arith}
+use Rattle.std.proofs.Common.{◌≡◌, ℕ, suc, ◌+◌, inl, inr, List, [], ◌∷◌, ◌++◌, zip, length, slice_index_or, slice_set, Bool, true, false, ◌&&◌, ◌||◌, not, if◌then◌else◌, Option, Some, None, Ok, Err, refl, sym, ap, ◌∙◌, arith}
 use Rattle.std.proofs.lemmas.List.{length-map, length-set}
 use Rattle.std.specs.Prelude.{flat_map}
 use Rattle.std.specs.List.{list_any}
@@ -30,62 +30,11 @@ use Rattle.sial_meaning.specs.WholeStates.{OwnIsWhole, DistributedIsWhole, Serve
 use Rattle.sial_meaning.proofs.FitLemmas.{Fit, named_volume, front-in, fit-named, placed, placed-temp}
 use Rattle.sial_meaning.proofs.GrantedVisits.{Good}
 use Rattle.sial_meaning.proofs.OwnLemmas.{set-read}
-use Rattle.sial_meaning.proofs.PairLemmas.{never, first-holds, second-holds, holds-so}
+use Rattle.sial_meaning.proofs.PairLemmas.{never, holds-so}
 use Rattle.sial_meaning.proofs.RangeLemmas.{InRange}
 use Rattle.sial_meaning.proofs.RestLemmasRules.{neither}
 use Rattle.sial_meaning.proofs.WholeStatements.{WholeTo}
-
--- a kind that passes the test for another is it
-pub kind-one : (a b : ArrayKind) → same_kind a b ≡ true → a ≡ b
-kind-one Static Static same = refl
-kind-one Static Temp same = absurd (never same)
-kind-one Static Local same = absurd (never same)
-kind-one Static Distributed same = absurd (never same)
-kind-one Static Served same = absurd (never same)
-kind-one Temp Static same = absurd (never same)
-kind-one Temp Temp same = refl
-kind-one Temp Local same = absurd (never same)
-kind-one Temp Distributed same = absurd (never same)
-kind-one Temp Served same = absurd (never same)
-kind-one Local Static same = absurd (never same)
-kind-one Local Temp same = absurd (never same)
-kind-one Local Local same = refl
-kind-one Local Distributed same = absurd (never same)
-kind-one Local Served same = absurd (never same)
-kind-one Distributed Static same = absurd (never same)
-kind-one Distributed Temp same = absurd (never same)
-kind-one Distributed Local same = absurd (never same)
-kind-one Distributed Distributed same = refl
-kind-one Distributed Served same = absurd (never same)
-kind-one Served Static same = absurd (never same)
-kind-one Served Temp same = absurd (never same)
-kind-one Served Local same = absurd (never same)
-kind-one Served Distributed same = absurd (never same)
-kind-one Served Served same = refl
-
--- two lists that pass the test are one
-lists-one : (xs ys : List ℕ) → same_list xs ys ≡ true → xs ≡ ys
-lists-one [] [] same = refl
-lists-one [] (y ∷ ys) same = absurd (never same)
-lists-one (x ∷ xs) [] same = absurd (never same)
-lists-one (x ∷ xs) (y ∷ ys) same =
-    ap (λ z. z ∷ xs) (eqb-true x y (first-holds (x == y) (same_list xs ys) same)) ∙ ap (λ zs. y ∷ zs) (lists-one xs ys (second-holds (x == y) (same_list xs ys) same))
-
--- so are two tuples of members
-members-one : (xs ys : List (ℕ × ℕ)) → same_members xs ys ≡ true → xs ≡ ys
-members-one [] [] same = refl
-members-one [] (y ∷ ys) same = absurd (never same)
-members-one (x ∷ xs) [] same = absurd (never same)
-members-one (x ∷ xs) (y ∷ ys) same =
-    let rest = second-holds (x.0 == y.0) (x.1 == y.1 && same_members xs ys) same in
-    let a : x.0 ≡ y.0 = eqb-true x.0 y.0 (first-holds (x.0 == y.0) (x.1 == y.1 && same_members xs ys) same) in
-    let b : x.1 ≡ y.1 = eqb-true x.1 y.1 (first-holds (x.1 == y.1) (same_members xs ys) rest) in
-    let pair : ◌≡◌ {A = ℕ × ℕ} x y = λ i. (a i, b i) in
-    ap (λ z. z ∷ xs) pair ∙ ap (λ zs. y ∷ zs) (members-one xs ys (second-holds (x.1 == y.1) (same_members xs ys) rest))
-
--- two answers that are one
-pub answer-one : {X : Type 0} (x y : X) → ◌≡◌ {A = Answer X} (Ok x) (Ok y) → x ≡ y
-answer-one x y same = cc
+use Rattle.sial_meaning.proofs.SameLemmas.{kind-one, lists-one, members-one, answer-one}
 
 -- a temp's elements where it holds the named block
 temp-source : (g : Setting) (bound : List ℕ) (own : Own) (from : BlockRef) (words : List ℕ) (t : Option Held) → IsSound g → Fit g bound from → OwnIsWhole g own → temp_of own from.array ≡ t

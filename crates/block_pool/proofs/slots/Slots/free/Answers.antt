@@ -1,6 +1,6 @@
 use Rattle.std.proofs.Common.{rules, ◌≡◌, ◌<◌, ◌≤◌, ◌-◌, ◌^◌, length, sym}
 use Rattle.block_pool.specs.Occupied.{group_at}
-use Rattle.block_pool.proofs.OccupiedLemmas.{unknown_class, free_fits}
+use Rattle.block_pool.proofs.VacantLemmas.{unknown_class, free_fits}
 use Rattle.block_pool.proofs.slots.Slots.free.Goals as goal
 
 pub overflow_cast-result : goal.overflow_cast-result

@@ -1,5 +1,6 @@
 use Rattle.std.proofs.Common.{rules, ◌+◌, ◌<◌, length}
-use Rattle.block_pool.proofs.OccupiedLemmas.{known_class, has_room, vacant_state, taken_within, taken_listed, taken_class, tied_taken}
+use Rattle.block_pool.proofs.VacantLemmas.{known_class, has_room}
+use Rattle.block_pool.proofs.OccupiedLemmas.{vacant_state, taken_within, taken_listed, taken_class, tied_taken}
 use Rattle.block_pool.proofs.slots.Slots.take.Goals as goal
 
 pub index_mut-group-requires : goal.index_mut-group-requires
