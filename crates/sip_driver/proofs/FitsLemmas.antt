@@ -13,7 +13,8 @@ use Rattle.sial_syntax.specs.declared.operand.Right.TheVariants.{One, Two}
 use Rattle.sial_syntax.specs.declared.operand.Target.TheVariants as target
 use Rattle.sip_driver.specs.First.{Path, spaces_of, IsBlock, IsForm, IsBody}
 use Rattle.sip_driver.specs.Ran.{Fits, IsWithin, IsAt, segment_len, index_of}
-use Rattle.sip_driver.specs.Running.{Numbers, words_of, with_words, with_scalar, with_value, through, segments_in, ran, ran_form, only_index, number_in}
+use Rattle.sip_driver.specs.Running.{Numbers, words_of, with_words, with_scalar, with_value, segments_in, only_index, number_in}
+use Rattle.sip_driver.proofs.Worked.{through, ran, ran_form}
 
 -- a list replaced by one of its length leaves each list's length
 pub length_at : {X : Type 0} (lists : List (List X)) (i j : ℕ) (new : List X) → length new ≡ length (slice_index_or lists i []) → length (slice_index_or (slice_set lists i new) j []) ≡ length (slice_index_or lists j [])

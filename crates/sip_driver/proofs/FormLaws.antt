@@ -30,16 +30,9 @@ use Rattle.sial_meaning.specs.Statement.{Outcome, Went, Present, local_done, unl
 use Rattle.sial_meaning.specs.Sight.{Sight}
 use Rattle.sip_driver.specs.First.{Path, setting_of, spaces_of}
 use Rattle.sip_driver.specs.Ran.{Fits}
-use Rattle.sip_driver.specs.Running.{Numbers, words_of, with_words, with_scalar, scalar_in, number_in, line_of}
+use Rattle.sip_driver.specs.Running.{Numbers, state_of, words_of, with_words, with_scalar, scalar_in, number_in, line_of}
 use Rattle.sip_driver.proofs.BlocksSeen.{one, filled-one, added-one, product-one}
 use Rattle.sip_driver.proofs.Places.{place-one}
-
--- the state of the meaning that numbers stand for, after lines
-abbrev pub state_of : Path → Numbers → List (List ℕ) → State
-state_of path m lines = record (start_state (setting_of path)) {
-  own = record (start_own (setting_of path)) { values = m.values; scalars = map Some m.scalars; statics = m.statics };
-  lines = lines;
-}
 
 -- the worker's part of that state
 abbrev pub own_of : Path → Numbers → Own

@@ -6,7 +6,9 @@ mod NumbersLemmas
 mod Places
 mod Printed
 mod RanLemmas
+mod Worked
 mod Sequential
+mod Meant
 mod StartLemmas
 mod StartLaws
 mod StatementsLemmas

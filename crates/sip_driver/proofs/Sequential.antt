@@ -25,9 +25,10 @@ use Rattle.sial_meaning.specs.State.{State}
 use Rattle.sial_meaning.specs.Statement.{Outcome, Went, Present, after}
 use Rattle.sip_driver.specs.First.{Path, setting_of, spaces_of, span_of_range, from_to, IsPath, IsRange, IsArray, OneBelow, IsBlock, IsForm, IsBody}
 use Rattle.sip_driver.specs.Ran.{Fits, IsWithin}
-use Rattle.sip_driver.specs.Running.{Numbers, body_lines, form_lines, ran, ran_form, words_of, through, lines_through, with_value}
+use Rattle.sip_driver.specs.Running.{Numbers, words_of, with_value, state_of}
+use Rattle.sip_driver.proofs.Worked.{body_lines, form_lines, ran, ran_form, through, lines_through}
 use Rattle.sip_driver.proofs.FitsLemmas.{fits_form, fits_body, fits_value, within_form, within_at, at_segment, length-words}
-use Rattle.sip_driver.proofs.FormLaws.{state_of, IsThere, over_one, print-law, set-law, increase-law, fill-law, add-law, contract-law}
+use Rattle.sip_driver.proofs.FormLaws.{IsThere, over_one, print-law, set-law, increase-law, fill-law, add-law, contract-law}
 
 -- a list read where it has an element gives that element, whatever the default
 pub read-any : {X : Type 0} (xs : List X) (i : ℕ) (d e : X) → i < length xs → slice_index_or xs i d ≡ slice_index_or xs i e

@@ -1,5 +1,5 @@
 -- A run of the first profile begins as the sequential meaning does.
-use Rattle.std.proofs.Common.{◌≡◌, ℕ, zero, suc, ◌+◌, ◌*◌, ◌/◌, ◌<◌, List, [], ◌∷◌, Option, Some, None, map, length, replicate, slice_index_or, refl, sym, ap, ◌∙◌, arith}
+use Rattle.std.proofs.Common.{◌≡◌, ℕ, zero, suc, ◌+◌, ◌*◌, ◌/◌, ◌<◌, List, [], ◌∷◌, Option, Some, map, length, replicate, slice_index_or, refl, sym, ap, ◌∙◌, arith}
 use Rattle.std.proofs.lemmas.List.Elements.{All-get_or}
 use Rattle.std.proofs.lemmas.Simd.{map-map}
 use Rattle.sial_syntax.specs.Boxes.{numbers_from, volume}
@@ -10,14 +10,14 @@ use Rattle.sial_meaning.specs.Meaning.{block_meaning, calls, call_depth}
 use Rattle.sial_meaning.specs.Own.{start_scalar, start_statics, start_block, for_each}
 use Rattle.sial_meaning.specs.Setting.{no_array, array_kind, block_count, scalar_class}
 use Rattle.sial_meaning.specs.State.{State, start_state}
-use Rattle.sial_meaning.specs.Statement.{Outcome, Present}
+use Rattle.sial_meaning.specs.Statement.{Present}
 use Rattle.sip_driver.specs.First.{Path, setting_of, spaces_of, IsPath, IsArray, OneBelow, printed_text, text_of, lines_of}
-use Rattle.sip_driver.specs.Running.{start_numbers, zero_blocks, segments_in, only_index, body_lines}
-use Rattle.sip_driver.proofs.FormLaws.{state_of, class-is}
+use Rattle.sip_driver.specs.Running.{start_numbers, zero_blocks, segments_in, only_index, state_of}
+use Rattle.sip_driver.specs.Running.{body_prints}
+use Rattle.sip_driver.proofs.FormLaws.{class-is}
 use Rattle.sial_syntax.proofs.BoxLemmas.{map-from, numbers-shift}
 use Rattle.sip_driver.proofs.Places.{map-same, map-read}
-use Rattle.sip_driver.proofs.Sequential.{body_law, span-is, one_below}
-use Rattle.sip_driver.proofs.StartLemmas.{fits_start}
+use Rattle.sip_driver.proofs.Sequential.{span-is, one_below}
 
 -- the same number, seen as there
 pub map-replicate : (n k : ℕ) → replicate n (Some k) ≡ map Some (replicate n k)
@@ -99,11 +99,7 @@ start-is path is =
     ap (λ scalars. st scalars (start_state (setting_of path)).own.statics) (scalars-start path) ∙ ap (λ statics. st (map Some (replicate (length path.program.scalars) 0)) statics) (statics-start path is)
 
 -- the text that a run prints is that of the sequential meaning
-pub printed : (path : Path) → IsPath path → printed_text path ≡ text_of (body_lines path path.program.body (start_numbers path))
+pub printed : (path : Path) → IsPath path → printed_text path ≡ text_of (body_prints path path.program.body (start_numbers path))
+unfolding body_prints
 printed path is =
-    let g = setting_of path in
-    let call = calls Present g call_depth in
-    ap
-    (λ (o : Outcome). text_of (lines_of o))
-    (ap (λ (s : State). block_meaning Present g call path.program.body s) (start-is path is)
-    ∙ body_law path call None path.program.body (start_numbers path) [] is is.body (fits_start path) tt)
+    ap (λ (s : State). text_of (lines_of (block_meaning Present (setting_of path) (calls Present (setting_of path) call_depth) path.program.body s))) (start-is path is)

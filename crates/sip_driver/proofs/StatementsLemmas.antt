@@ -1,12 +1,18 @@
 -- One statement of a body, and one turn of a loop, as parts of the whole.
 use Rattle.std.proofs.Common.{◌≡◌, ℕ, ◌+◌, ◌-◌, ◌<◌, List, ◌++◌, Option, Result, Ok, Err, sym, ap, ◌∙◌, subst}
 use Rattle.sial_syntax.specs.Boxes.{numbers_from}
-use Rattle.sial_syntax.specs.Tree.{Block, Then, Plain}
+use Rattle.sial_syntax.specs.Tree.{Block, Then, Plain, Assign, plain_form, plain_layer, with_line}
+use Rattle.sial_syntax.specs.declared.operand.Op.{Op}
+use Rattle.sial_syntax.specs.declared.operand.Right.{Right}
+use Rattle.sial_syntax.specs.declared.operand.Target.{Target}
+use Rattle.sial_syntax.specs.declared.statement.Form as form
+use Rattle.sial_syntax.specs.declared.statement.Form.{fold_out-Form}
 use Rattle.sip_files.specs.Kept.{Kept}
 use Rattle.sial_syntax.specs.Spaces.{first_of, count_of}
 use Rattle.sip_driver.specs.First.{Path, spaces_of, text_of, IsBody}
 use Rattle.sip_driver.specs.Ran.{Ran, RanSoFar, Fits, IsWithin}
-use Rattle.sip_driver.specs.Running.{Numbers, ran, ran_form, body_lines, form_lines, through, lines_through, segments_in}
+use Rattle.sip_driver.specs.Running.{Numbers, segments_in}
+use Rattle.sip_driver.proofs.Worked.{ran, ran_form, body_lines, form_lines, through, lines_through}
 use Rattle.sip_driver.specs.declared.fault.RunFault.{RunFault}
 use Rattle.sip_driver.proofs.FitsLemmas.{fits_form, within_form}
 use Rattle.sip_driver.proofs.NumbersFrom.{one_turn}
@@ -76,3 +82,8 @@ so_far_same {old = old} {new = new} {before = before} {now = now} {was = was} {i
 pub segments_are : (path : Path) (index first count : ℕ) → first ≡ first_of (spaces_of path) index → count ≡ count_of (spaces_of path) index → numbers_from first count ≡ segments_in path index
 segments_are path index first count is_first is_count =
     ap (λ k. numbers_from k count) is_first ∙ ap (λ n. numbers_from (first_of (spaces_of path) index) n) is_count
+
+-- an assignment as it is seen
+pub seen_assign : (target : Target) (op : Op) (right : Right) → plain_form (form.Assign target op right) ≡ Assign target op right
+unfolding form.out-Form denote.Hole.Carrier.out
+seen_assign target op right = fold_out-Form Plain (ℕ × Plain) plain_layer with_line (form.Assign target op right)

@@ -1,18 +1,15 @@
--- What a run of the first profile does to its numbers, one statement after another, and the lines that it prints.
-use Rattle.std.specs.Prelude.{ℕ, ◌-◌, List, [], ◌∷◌, ◌++◌, map, length, replicate, slice_index_or, slice_set, decimal, codes}
+-- The numbers that the small evaluator keeps, and what the sequential meaning makes of them.
+use Rattle.std.specs.Prelude.{ℕ, ◌-◌, List, [], ◌++◌, map, length, replicate, slice_index_or, slice_set, decimal, codes, Some, unwrap_or}
 use Rattle.sial_syntax.specs.Boxes.{numbers_from}
 use Rattle.sial_syntax.specs.Spaces.{first_of, count_of, among}
-use Rattle.sial_syntax.specs.Tree.{Block, End, Then, Plain, Do, Assign, PrintScalar}
+use Rattle.sial_syntax.specs.Tree.{Block, Plain}
 use Rattle.sial_syntax.specs.declared.array.ArrayDecl.{ArrayDecl}
-use Rattle.sial_syntax.specs.declared.operand.Bin.TheVariants.{Times}
 use Rattle.sial_syntax.specs.declared.operand.BlockRef.{BlockRef}
-use Rattle.sial_syntax.specs.declared.operand.Op.TheVariants.{Set, Add}
-use Rattle.sial_syntax.specs.declared.operand.Operand.TheVariants as operand
-use Rattle.sial_syntax.specs.declared.operand.Right.TheVariants.{One, Two}
-use Rattle.sial_syntax.specs.declared.operand.Target.TheVariants as target
-use Rattle.sial_meaning.specs.Number.{plus}
-use Rattle.block_math.specs.Elements.{sums, dot_of}
-use Rattle.sip_driver.specs.First.{Path, spaces_of}
+use Rattle.sial_meaning.specs.Meaning.{form_meaning, block_meaning, calls, call_depth}
+use Rattle.sial_meaning.specs.Own.{start_own}
+use Rattle.sial_meaning.specs.State.{State, start_state}
+use Rattle.sial_meaning.specs.Statement.{Outcome, Went, Stopped, Present}
+use Rattle.sip_driver.specs.First.{Path, spaces_of, setting_of, lines_of}
 
 -- the numbers of a run: those of indices and scalars, and the static blocks of each array
 pub record Numbers : Type 0 where
@@ -53,49 +50,49 @@ with_value index number m = record m { values = slice_set m.values index number 
 abbrev pub line_of : Path → Numbers → ℕ → List ℕ
 line_of path m scalar = slice_index_or path.program.scalars scalar [] ++ (codes " " ++ decimal (scalar_in m scalar))
 
--- one thing after another for each number
-abbrev pub through : List ℕ → (ℕ → Numbers → Numbers) → Numbers → Numbers
-through [] turn m = m
-through (k ∷ ks) turn m = through ks turn (turn k m)
-
--- the lines of one thing after another
-abbrev pub lines_through : List ℕ → (ℕ → Numbers → Numbers) → (ℕ → Numbers → List (List ℕ)) → Numbers → List (List ℕ)
-lines_through [] turn lines m = []
-lines_through (k ∷ ks) turn lines m = lines k m ++ lines_through ks turn lines (turn k m)
-
 -- the segments of an index
 abbrev pub segments_in : Path → (index : ℕ) → List ℕ
 segments_in path index = numbers_from (first_of (spaces_of path) index) (count_of (spaces_of path) index)
 
-abbrev mutual
-  -- the numbers after one statement
-  pub ran_form : Path → Plain → Numbers → Numbers
-  ran_form path (Do index body) m = with_value index 0 (through (segments_in path index) (λ k n. ran path body (with_value index k n)) m)
-  ran_form path (Assign (target.Block t) Set (One (operand.Number n))) m = with_words path t (replicate (length (words_of path m t)) n) m
-  ran_form path (Assign (target.Block t) Add (One (operand.Block b))) m = with_words path t (sums (words_of path m t) (words_of path m b)) m
-  ran_form path (Assign (target.Scalar s) Set (One (operand.Number n))) m = with_scalar s n m
-  ran_form path (Assign (target.Scalar s) Add (One (operand.Number n))) m = with_scalar s (plus (scalar_in m s) n) m
-  ran_form path (Assign (target.Scalar s) Set (Two (operand.Block a) Times (operand.Block b))) m =
-      with_scalar s (dot_of (words_of path m a) (words_of path m b)) m
-  ran_form path _ m = m
+-- the state of the meaning that numbers stand for, after lines
+abbrev pub state_of : Path → Numbers → List (List ℕ) → State
+state_of path m lines = record (start_state (setting_of path)) {
+  own = record (start_own (setting_of path)) { values = m.values; scalars = map Some m.scalars; statics = m.statics };
+  lines = lines;
+}
 
-  -- the numbers after some statements
-  pub ran : Path → Block → Numbers → Numbers
-  ran path End m = m
-  ran path (Then line form rest) m = ran path rest (ran_form path form m)
+-- the numbers of a state
+abbrev pub numbers_in : State → Numbers
+numbers_in s = record { values = s.own.values; scalars = map (λ n. unwrap_or n 0) s.own.scalars; statics = s.own.statics }
 
-abbrev mutual
-  -- the lines that one statement prints
-  pub form_lines : Path → Plain → Numbers → List (List ℕ)
-  form_lines path (Do index body) m =
-      lines_through (segments_in path index) (λ k n. ran path body (with_value index k n)) (λ k n. body_lines path body (with_value index k n)) m
-  form_lines path (PrintScalar s) m = line_of path m s ∷ []
-  form_lines path _ m = []
+-- the numbers where something led
+abbrev pub numbers_of : Outcome → Numbers
+numbers_of (Went s) = numbers_in s
+numbers_of (Stopped trap s) = numbers_in s
 
-  -- the lines that some statements print
-  pub body_lines : Path → Block → Numbers → List (List ℕ)
-  body_lines path End m = []
-  body_lines path (Then line form rest) m = form_lines path form m ++ body_lines path rest (ran_form path form m)
+-- where the sequential meaning of one statement leads from numbers
+abbrev pub form_leads : Path → Plain → Numbers → Outcome
+form_leads path form m = form_meaning Present (setting_of path) (calls Present (setting_of path) call_depth) 0 form (state_of path m [])
+
+-- where that of some statements leads
+abbrev pub body_leads : Path → Block → Numbers → Outcome
+body_leads path body m = block_meaning Present (setting_of path) (calls Present (setting_of path) call_depth) body (state_of path m [])
+
+-- the numbers after one statement
+unfoldable pub form_numbers : Path → Plain → Numbers → Numbers
+form_numbers path form m = numbers_of (form_leads path form m)
+
+-- the numbers after some statements
+unfoldable pub body_numbers : Path → Block → Numbers → Numbers
+body_numbers path body m = numbers_of (body_leads path body m)
+
+-- the lines that one statement prints
+unfoldable pub form_prints : Path → Plain → Numbers → List (List ℕ)
+form_prints path form m = lines_of (form_leads path form m)
+
+-- the lines that some statements print
+unfoldable pub body_prints : Path → Block → Numbers → List (List ℕ)
+body_prints path body m = lines_of (body_leads path body m)
 
 -- zeros for each segment of the index of a static array
 abbrev pub zero_blocks : Path → ArrayDecl → List (List ℕ)

@@ -4,7 +4,7 @@ ghost use Rattle.std.specs.Prelude.{◌≡◌, Option, OnOk};
 ghost use Rattle.sial_syntax.specs.Tree.{Assign};
 ghost use Rattle.sip_driver.specs.First.{seen, IsPath, IsForm};
 ghost use Rattle.sip_driver.specs.Ran.{Fits, IsWithin};
-ghost use Rattle.sip_driver.specs.Running.{ran_form};
+ghost use Rattle.sip_driver.specs.Running.{form_numbers};
 
 use crate::blocks::{add, contract, fill, increase};
 use crate::first::First;
@@ -27,7 +27,7 @@ pub fn assign(
     requires within { IsWithin (seen first.now) machine.old within }
     requires form { IsForm (seen first.now).program within (Assign target.now op right.now) }
 
-    ensures { OnOk result (machine.new ≡ ran_form (seen first.now) (Assign target.now op right.now) machine.old) }
+    ensures { OnOk result (machine.new ≡ form_numbers (seen first.now) (Assign target.now op right.now) machine.old) }
 {
     match (target, op, right) {
         (Target::Block(block), Op::Set, Right::One(Operand::Number(number))) => {

@@ -4,7 +4,7 @@ ghost use Rattle.std.specs.Prelude.{◌≡◌, ◌<◌, length, OnOk};
 ghost use Rattle.sial_syntax.specs.Tree.{block, plain_form, Do};
 ghost use Rattle.sip_driver.specs.First.{seen, text_of, IsPath, IsBody, IsForm};
 ghost use Rattle.sip_driver.specs.Ran.{Ran, Fits, IsWithin};
-ghost use Rattle.sip_driver.specs.Running.{ran, ran_form, body_lines, form_lines};
+ghost use Rattle.sip_driver.specs.Running.{body_numbers, form_numbers, body_prints, form_prints};
 
 use crate::assign::assign;
 use crate::fault::RunFault;
@@ -31,8 +31,8 @@ pub fn run_body<K: Sink>(
     requires within { IsWithin (seen first.now) machine.old within }
     requires body { IsBody (seen first.now).program within (block stmts.now) }
 
-    ensures numbers { OnOk result (machine.new ≡ ran (seen first.now) (block stmts.now) machine.old) }
-    ensures ran { Ran (K.written out.old) (K.written out.new) (K.faults out.old) (K.faults out.new) (K.kept out.old) (K.kept out.new) (text_of (body_lines (seen first.now) (block stmts.now) machine.old)) result }
+    ensures numbers { OnOk result (machine.new ≡ body_numbers (seen first.now) (block stmts.now) machine.old) }
+    ensures ran { Ran (K.written out.old) (K.written out.new) (K.faults out.old) (K.faults out.new) (K.kept out.old) (K.kept out.new) (text_of (body_prints (seen first.now) (block stmts.now) machine.old)) result }
 {
     for stmt in stmts {
         run_form(alloc, first, within, &stmt.form, machine, out)?;
@@ -54,8 +54,8 @@ fn run_form<K: Sink>(
     requires within { IsWithin (seen first.now) machine.old within }
     requires form { IsForm (seen first.now).program within (plain_form form.now) }
 
-    ensures numbers { OnOk result (machine.new ≡ ran_form (seen first.now) (plain_form form.now) machine.old) }
-    ensures ran { Ran (K.written out.old) (K.written out.new) (K.faults out.old) (K.faults out.new) (K.kept out.old) (K.kept out.new) (text_of (form_lines (seen first.now) (plain_form form.now) machine.old)) result }
+    ensures numbers { OnOk result (machine.new ≡ form_numbers (seen first.now) (plain_form form.now) machine.old) }
+    ensures ran { Ran (K.written out.old) (K.written out.new) (K.faults out.old) (K.faults out.new) (K.kept out.old) (K.kept out.new) (text_of (form_prints (seen first.now) (plain_form form.now) machine.old)) result }
 {
     match form {
         Form::Do { index, body } => run_loop(alloc, first, *index, body.as_slice(), machine, out),
@@ -81,8 +81,8 @@ fn run_loop<K: Sink>(
     requires index { index < length (seen first.now).program.indices }
     requires body { IsBody (seen first.now).program (Some index) (block stmts.now) }
 
-    ensures numbers { OnOk result (machine.new ≡ ran_form (seen first.now) (Do index (block stmts.now)) machine.old) }
-    ensures ran { Ran (K.written out.old) (K.written out.new) (K.faults out.old) (K.faults out.new) (K.kept out.old) (K.kept out.new) (text_of (form_lines (seen first.now) (Do index (block stmts.now)) machine.old)) result }
+    ensures numbers { OnOk result (machine.new ≡ form_numbers (seen first.now) (Do index (block stmts.now)) machine.old) }
+    ensures ran { Ran (K.written out.old) (K.written out.new) (K.faults out.old) (K.faults out.new) (K.kept out.old) (K.kept out.new) (text_of (form_prints (seen first.now) (Do index (block stmts.now)) machine.old)) result }
 {
     let segments = segments_of(first, index);
     for turn in 0..segments.count {

@@ -1,15 +1,18 @@
-use Rattle.std.proofs.Common.{◌≡◌, ℕ, ◌+◌, ◌-◌, List, [], ap, sym, ◌∙◌, subst, Some, arith}
+use Rattle.std.proofs.Common.{◌≡◌, ℕ, ◌+◌, ◌-◌, List, [], ap, sym, ◌∙◌, subst, Some, None, arith, rules, ◌∷◌, ◌++◌, append-nil}
+use Rattle.std.proofs.lemmas.Grind.{common_steps}
 use Rattle.std.proofs.lemmas.Result.{err_from_is_err_and}
-use Rattle.sial_syntax.specs.Tree.{Plain, block, plain_form}
+use Rattle.sial_syntax.specs.Tree.{Plain, Do, block, plain_form}
 use Rattle.sial_syntax.proofs.TreeLemmas.{seen_rest, seen_print}
 use Rattle.sial_syntax.specs.Boxes.{numbers_from}
 use Rattle.sip_driver.specs.First.{seen, text_of}
 use Rattle.sip_driver.specs.Ran.{Fits}
-use Rattle.sip_driver.specs.Running.{Numbers, ran, body_lines, form_lines, through, lines_through, with_value}
+use Rattle.sip_driver.specs.Running.{Numbers, with_value, line_of, body_numbers, body_prints}
+use Rattle.sip_driver.proofs.Meant.{form-numbers, body-numbers, body-prints, next-numbers, next-ran, whole-ran, form-ran}
+use Rattle.sip_driver.proofs.Worked.{ran, ran_form, body_lines, form_lines, through, lines_through}
 use Rattle.sip_driver.specs.declared.fault.RunFault.TheVariants.{NotWritten}
 use Rattle.sip_driver.proofs.FitsLemmas.{fits_body, fits_value, at_segment}
-use Rattle.sip_driver.proofs.RanLemmas.{failed_ran, stopped_ran, same_ran, stopped_so_far, further}
-use Rattle.sip_driver.proofs.StatementsLemmas.{handed_on, body_stopped, left_next, lines_next, through_turn, lines_turn, so_far_same, segments_are}
+use Rattle.sip_driver.proofs.RanLemmas.{ran_nothing, wrote_ran, failed_ran, stopped_ran, same_ran, stopped_so_far, further}
+use Rattle.sip_driver.proofs.StatementsLemmas.{handed_on, body_stopped, left_next, lines_next, through_turn, lines_turn, so_far_same, segments_are, seen_assign}
 use Rattle.sip_driver.proofs.statements.+running.Goals as goal
 
 pub run_body-returns-in_err-run_form-clause-ran : goal.run_body-returns-in_err-run_form-clause-ran
@@ -19,13 +22,14 @@ run_body-returns-in_err-run_form-clause-ran g t c =
     c.in_err-run_form.field-0.0
     c.from_residual.result
     (err_from_is_err_and c.from_residual.result c.from_residual.ensures.1)
-    (body_stopped (seen c.args.first.now) c.loop-stmt.machine _ _ _ _ front c.loop-stmt.invariant.1 c.in_err-run_form.ensures.ran)
+    (whole-ran (seen c.args.first.now) c.args.within c.args.machine.now (block c.args.stmts.now) c.requires.path c.requires.fits c.requires.within c.requires.body
+    (body_stopped (seen c.args.first.now) c.loop-stmt.machine _ _ _ _ front c.loop-stmt.invariant.1 (next-ran c.requires.path c.loop-stmt.invariant.0 front c.in_err-run_form.ensures.ran)))
 
 pub run_body-loop-stmt-preserved : goal.run_body-loop-stmt-preserved
 run_body-loop-stmt-preserved g t c =
     let front = seen_rest c.args.stmts.now c.loop-stmt.stmt-index c.stmt-item.result c.loop-stmt-test.true c.stmt-item.is in (
-      left_next (seen c.args.first.now) c.args.within _ _ _ _ _ c.loop-stmt.machine c.run_form.new.machine front c.in_ok-run_form.ensures.numbers c.loop-stmt.invariant.0,
-      lines_next (seen c.args.first.now) c.loop-stmt.machine c.run_form.new.machine _ _ _ _ front c.in_ok-run_form.ensures.numbers c.loop-stmt.invariant.1 c.in_ok-run_form.ensures.ran,
+      left_next (seen c.args.first.now) c.args.within _ _ _ _ _ c.loop-stmt.machine c.run_form.new.machine front (next-numbers c.requires.path c.loop-stmt.invariant.0 front c.in_ok-run_form.ensures.numbers) c.loop-stmt.invariant.0,
+      lines_next (seen c.args.first.now) c.loop-stmt.machine c.run_form.new.machine _ _ _ _ front (next-numbers c.requires.path c.loop-stmt.invariant.0 front c.in_ok-run_form.ensures.numbers) c.loop-stmt.invariant.1 (next-ran c.requires.path c.loop-stmt.invariant.0 front c.in_ok-run_form.ensures.ran),
     )
 
 pub run_form-returns-in_err-print_scalar-in-PrintScalar-clause-ran : goal.run_form-returns-in_err-print_scalar-in-PrintScalar-clause-ran
@@ -34,9 +38,10 @@ run_form-returns-in_err-print_scalar-in-PrintScalar-clause-ran g t c =
     NotWritten
     c.from_residual-in_err-print_scalar-in-PrintScalar.result
     (err_from_is_err_and c.from_residual-in_err-print_scalar-in-PrintScalar.result c.from_residual-in_err-print_scalar-in-PrintScalar.ensures.1)
+    (form-ran (seen c.args.first.now) c.args.within c.args.machine.now (plain_form c.args.form.now) c.requires.path c.requires.fits c.requires.within c.requires.form
     (same_ran
     (sym (ap (λ (f : Plain). text_of (form_lines (seen c.args.first.now) f c.args.machine.now)) (ap plain_form c.in-PrintScalar.is ∙ seen_print c.in-PrintScalar.scalar)))
-    (stopped_ran [] (failed_ran c.in_err-print_scalar-in-PrintScalar.field-0.0 c.in_err-print_scalar-in-PrintScalar.ensures)))
+    (stopped_ran [] (failed_ran c.in_err-print_scalar-in-PrintScalar.field-0.0 c.in_err-print_scalar-in-PrintScalar.ensures))))
 
 pub run_loop-returns-in_err-run_body-clause-ran : goal.run_loop-returns-in_err-run_body-clause-ran
 run_loop-returns-in_err-run_body-clause-ran g t c =
@@ -46,17 +51,22 @@ run_loop-returns-in_err-run_body-clause-ran g t c =
     let lines : ℕ → Numbers → List (List ℕ) = λ k n. body_lines path body (with_value c.args.index k n) in
     let s = c.segments_of-segments.result in
     let m = c.loop-turn.machine in
+    let k = s.first + c.loop-turn.turn in
+    let kept = fits_value path m c.args.index k c.loop-turn.invariant.0 in
+    let at = at_segment path m c.args.index k c.requires.index c.loop-turn.invariant.0 (omega (arith, c.segments_of-segments.ensures.first)) (omega (arith, c.segments_of-segments.ensures.first, c.segments_of-segments.ensures.count, c.loop-turn-test.true)) in
+    let meant = body-prints path (Some c.args.index) (with_value c.args.index k m) c.requires.path kept at body c.requires.body in
     handed_on
     c.in_err-run_body.field-0.0
     c.from_residual.result
     (err_from_is_err_and c.from_residual.result c.from_residual.ensures.1)
+    (form-ran path None c.args.machine.now (Do c.args.index body) c.requires.path c.requires.fits tt (c.requires.index, c.requires.body)
     (same_ran
     (ap (λ (ks : List ℕ). text_of (lines_through ks turn lines c.args.machine.now)) (segments_are path c.args.index s.first s.count c.segments_of-segments.ensures.first c.segments_of-segments.ensures.count))
     (stopped_so_far
     (lines (s.first + c.loop-turn.turn) m)
     (lines_through (numbers_from (s.first + (c.loop-turn.turn + 1)) (s.count - (c.loop-turn.turn + 1))) turn lines (turn (s.first + c.loop-turn.turn) m))
     (so_far_same (lines_turn turn lines s.first c.loop-turn.turn s.count m c.loop-turn-test.true) c.loop-turn.invariant.2)
-    (same_ran (ap (λ (n : Numbers). text_of (body_lines path body n)) c.set_value.ensures) c.in_err-run_body.ensures.ran)))
+    (same_ran (ap (λ (n : Numbers). text_of (body_prints path body n)) c.set_value.ensures ∙ ap text_of meant) c.in_err-run_body.ensures.ran))))
 
 pub run_loop-loop-turn-preserved : goal.run_loop-loop-turn-preserved
 run_loop-loop-turn-preserved g t c =
@@ -67,7 +77,11 @@ run_loop-loop-turn-preserved g t c =
     let s = c.segments_of-segments.result in
     let m = c.loop-turn.machine in
     let k = s.first + c.loop-turn.turn in
-    let is : c.run_body.new.machine ≡ turn k m = c.in_ok-run_body.ensures.numbers ∙ ap (λ (n : Numbers). ran path body n) c.set_value.ensures in (
+    let kept = fits_value path m c.args.index k c.loop-turn.invariant.0 in
+    let at = at_segment path m c.args.index k c.requires.index c.loop-turn.invariant.0 (omega (arith, c.segments_of-segments.ensures.first)) (omega (arith, c.segments_of-segments.ensures.first, c.segments_of-segments.ensures.count, c.loop-turn-test.true)) in
+    let meant = body-prints path (Some c.args.index) (with_value c.args.index k m) c.requires.path kept at body c.requires.body in
+    let worked = body-numbers path (Some c.args.index) (with_value c.args.index k m) c.requires.path kept at body c.requires.body in
+    let is : c.run_body.new.machine ≡ turn k m = c.in_ok-run_body.ensures.numbers ∙ (ap (λ (n : Numbers). body_numbers path body n) c.set_value.ensures ∙ worked) in (
       subst
           (λ (n : Numbers). Fits path n)
           (sym is)
@@ -77,8 +91,8 @@ run_loop-loop-turn-preserved g t c =
           body
           (with_value c.args.index k m)
           c.requires.body
-          (fits_value path m c.args.index k c.loop-turn.invariant.0)
-          (at_segment path m c.args.index k c.requires.index c.loop-turn.invariant.0 (omega (arith, c.segments_of-segments.ensures.first)) (omega (arith, c.segments_of-segments.ensures.first, c.segments_of-segments.ensures.count, c.loop-turn-test.true)))),
+          kept
+          at),
       ap (λ (n : Numbers). through (numbers_from (s.first + (c.loop-turn.turn + 1)) (s.count - (c.loop-turn.turn + 1))) turn n) is
           ∙ (sym (through_turn turn s.first c.loop-turn.turn s.count m c.loop-turn-test.true) ∙ c.loop-turn.invariant.1),
       so_far_same
@@ -87,5 +101,52 @@ run_loop-loop-turn-preserved g t c =
           (lines k m)
           (lines_through (numbers_from (s.first + (c.loop-turn.turn + 1)) (s.count - (c.loop-turn.turn + 1))) turn lines (turn k m))
           (so_far_same (lines_turn turn lines s.first c.loop-turn.turn s.count m c.loop-turn-test.true) c.loop-turn.invariant.2)
-          (same_ran (ap (λ (n : Numbers). text_of (body_lines path body n)) c.set_value.ensures) c.in_ok-run_body.ensures.ran)),
+          (same_ran (ap (λ (n : Numbers). text_of (body_prints path body n)) c.set_value.ensures ∙ ap text_of meant) c.in_ok-run_body.ensures.ran)),
     )
+
+pub run_body-returns-clause-numbers : goal.run_body-returns-clause-numbers
+run_body-returns-clause-numbers g t c =
+    let path = seen c.args.first.now in
+    let body = block c.args.stmts.now in
+    let worked : c.loop-stmt.machine ≡ ran path body c.args.machine.now = grind (arith, common_steps) in
+    worked ∙ sym (body-numbers path c.args.within c.args.machine.now c.requires.path c.requires.fits c.requires.within body c.requires.body)
+
+pub run_body-returns-clause-ran : goal.run_body-returns-clause-ran
+run_body-returns-clause-ran g t c =
+    whole-ran (seen c.args.first.now) c.args.within c.args.machine.now (block c.args.stmts.now) c.requires.path c.requires.fits c.requires.within c.requires.body (grind (arith, common_steps))
+
+pub run_form-returns-in_ok-print_scalar-in-PrintScalar-clause-numbers : goal.run_form-returns-in_ok-print_scalar-in-PrintScalar-clause-numbers
+run_form-returns-in_ok-print_scalar-in-PrintScalar-clause-numbers g t c =
+    let path = seen c.args.first.now in
+    let form = ap plain_form c.in-PrintScalar.is ∙ seen_print c.in-PrintScalar.scalar in
+    sym
+    (form-numbers path c.args.within c.args.machine.now c.requires.path c.requires.fits c.requires.within (plain_form c.args.form.now) c.requires.form
+    ∙ ap (λ (f : Plain). ran_form path f c.args.machine.now) form)
+
+pub run_form-returns-in_ok-print_scalar-in-PrintScalar-clause-ran : goal.run_form-returns-in_ok-print_scalar-in-PrintScalar-clause-ran
+run_form-returns-in_ok-print_scalar-in-PrintScalar-clause-ran g t c =
+    let path = seen c.args.first.now in
+    let form = ap plain_form c.in-PrintScalar.is ∙ seen_print c.in-PrintScalar.scalar in
+    form-ran path c.args.within c.args.machine.now (plain_form c.args.form.now) c.requires.path c.requires.fits c.requires.within c.requires.form
+    (same_ran
+    (sym (append-nil (line_of path c.args.machine.now c.in-PrintScalar.scalar ++ 10 ∷ [])) ∙ sym (ap (λ (f : Plain). text_of (form_lines path f c.args.machine.now)) form))
+    (wrote_ran c.in_ok-print_scalar-in-PrintScalar.ensures))
+
+pub run_loop-returns-clause-numbers : goal.run_loop-returns-clause-numbers
+run_loop-returns-clause-numbers g t c =
+    let path = seen c.args.first.now in
+    let form = Do c.args.index (block c.args.stmts.now) in
+    let worked : c.set_value-2.new.self ≡ ran_form path form c.args.machine.now = search rules in
+    worked ∙ sym (form-numbers path None c.args.machine.now c.requires.path c.requires.fits tt form (c.requires.index, c.requires.body))
+
+pub run_loop-returns-clause-ran : goal.run_loop-returns-clause-ran
+run_loop-returns-clause-ran g t c =
+    form-ran (seen c.args.first.now) None c.args.machine.now (Do c.args.index (block c.args.stmts.now)) c.requires.path c.requires.fits tt (c.requires.index, c.requires.body) (search rules)
+
+pub run_form-returns-in_ok-assign-in-Assign-clause-ran : goal.run_form-returns-in_ok-assign-in-Assign-clause-ran
+run_form-returns-in_ok-assign-in-Assign-clause-ran g t c =
+    let form = ap plain_form c.in-Assign.is ∙ seen_assign c.in-Assign.target c.in-Assign.op c.in-Assign.right in
+    form-ran (seen c.args.first.now) c.args.within c.args.machine.now (plain_form c.args.form.now) c.requires.path c.requires.fits c.requires.within c.requires.form
+    (same_ran
+    (sym (ap (λ (f : Plain). text_of (form_lines (seen c.args.first.now) f c.args.machine.now)) form))
+    (ran_nothing (g.K.Sink.written c.args.out.now) (g.K.Sink.faults c.args.out.now) (g.K.Sink.kept c.args.out.now)))

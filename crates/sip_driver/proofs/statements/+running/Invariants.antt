@@ -4,7 +4,8 @@ use Rattle.sial_syntax.specs.Tree.{block}
 use Rattle.sip_driver.specs.First.{seen}
 use Rattle.sip_driver.specs.Ran.{RanSoFar, Fits}
 use Rattle.sip_driver.proofs.StatementsLemmas.{Left}
-use Rattle.sip_driver.specs.Running.{ran, body_lines, through, lines_through, with_value}
+use Rattle.sip_driver.specs.Running.{with_value}
+use Rattle.sip_driver.proofs.Worked.{ran, body_lines, through, lines_through}
 use Rattle.sip_driver.proofs.statements.+running.Given as goal
 
 -- the numbers fit, the statements that are left give what all give, and their lines are left
