@@ -12,11 +12,13 @@ use Rattle.sial_syntax.specs.Spaces.{first_of, count_of, pieces_of}
 use Rattle.sial_syntax.specs.Tree.{Block, Do, DoIn, Pardo, If, IfElse, Call}
 use Rattle.sial_syntax.specs.Visits.{visits}
 use Rattle.sial_meaning.specs.declared.trap.Trap.{Trap}
+use Rattle.sial_meaning.specs.Control.{loop_at}
 use Rattle.sial_meaning.specs.Course.{Point, stepped, next_from, course}
 use Rattle.sial_meaning.specs.Sound.{IsGrantedSetting}
 use Rattle.sial_meaning.specs.Meaning.{call_depth, condition, left}
 use Rattle.sial_meaning.specs.Own.{Own, value_of, unset}
-use Rattle.sial_meaning.specs.Rest.{Rest, Over, Next, Turn, Join, Back, Within, Stepped, Moved, Halted, Ended, depth, push, step_from}
+use Rattle.sial_meaning.specs.Rest.{Rest, Over, Next, Turn, Join, Back, Within, depth, push}
+use Rattle.sial_meaning.specs.Step.{Stepped, Moved, Halted, Ended, step_from}
 use Rattle.sial_meaning.specs.Setting.{Setting}
 use Rattle.sial_meaning.specs.State.{State}
 use Rattle.sial_meaning.specs.Statement.{Copied, statement}
@@ -77,12 +79,9 @@ module _ (g : Setting) (set : IsGrantedSetting g) where
       set
       f.d
       f.indices
-      (at + 1 + sizes body)
-      at
-      index
+      (loop_at at index body)
       (first_of g.spaces index)
       (count_of g.spaces index)
-      body
       rest
       s
       f.at.deep
@@ -101,12 +100,9 @@ module _ (g : Setting) (set : IsGrantedSetting g) where
       set
       f.d
       f.indices
-      (at + 1 + sizes body)
-      at
-      sub
+      (loop_at at sub body)
       1
       (pieces_of g.spaces sub (value_of s.own index))
-      body
       rest
       s
       f.at.deep
@@ -212,23 +208,20 @@ module _ (g : Setting) (set : IsGrantedSetting g) where
       (step_from Copied g (Next at line form rest) s)
       f
       (done_fit g set f.d f.indices (statement Copied g line form s) rest s.own f.at.deep f.at.stands.1 f.at.numbered (statement_goes Copied g line form s))
-  next_fit (Turn at head index last body rest) s traps f =
+  next_fit (Turn loop last rest) s traps f =
       let stands = f.at.stands in
       stepped_fit
-      (record { work = record { rest = Turn at head index last body rest; state = s }; traps = traps })
-      (step_from Copied g (Turn at head index last body rest) s)
+      (record { work = record { rest = Turn loop last rest; state = s }; traps = traps })
+      (step_from Copied g (Turn loop last rest) s)
       f
       (turned_fit
       g
       set
       f.d
       stands.0
-      (nat_lt (value_of s.own index) last)
-      at
-      head
-      index
+      (nat_lt (value_of s.own loop.index) last)
+      loop
       last
-      body
       rest
       s
       f.at.deep
@@ -239,7 +232,7 @@ module _ (g : Setting) (set : IsGrantedSetting g) where
   next_fit (Back at values rest) s traps f =
       let deep : f.d + (depth rest + 1) ≡ call_depth = f.at.deep in
       fit_of g set (suc f.d) f.at.stands.0 rest _ (omega (arith, deep)) f.at.stands.2 (f.at.stands.1 s.own)
-  next_fit (Within at head these wheres body number rest) s traps f = absurd f.at.stands
+  next_fit (Within pardo number rest) s traps f = absurd f.at.stands
 
   -- each point of the course
   pub course_fit : (t : ℕ) → Fit g set (course g t).work

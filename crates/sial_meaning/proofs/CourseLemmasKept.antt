@@ -8,7 +8,8 @@ use Rattle.sial_meaning.specs.Course.{next_from, course}
 use Rattle.sial_meaning.specs.CourseLaws.{KeepsControl, BeginsWithPardo, IterationsKeepControl, PardosKeepControl}
 use Rattle.sial_meaning.specs.Sound.{IsGrantedSetting}
 use Rattle.sial_meaning.specs.Own.{Own}
-use Rattle.sial_meaning.specs.Rest.{Rest, Work}
+use Rattle.sial_meaning.specs.Rest.{Rest}
+use Rattle.sial_meaning.specs.Step.{Work}
 use Rattle.sial_meaning.specs.Setting.{Setting}
 use Rattle.sial_meaning.proofs.ControlLemmasCalls.{PardoStands, only_taken, iteration_kept}
 use Rattle.sial_meaning.proofs.ControlLemmasFold.{OnlyBound}

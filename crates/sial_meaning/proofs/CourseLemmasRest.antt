@@ -14,7 +14,9 @@ use Rattle.sial_meaning.specs.Sound.{IsGrantedSetting}
 use Rattle.sial_meaning.specs.LocalStep.{Answer}
 use Rattle.sial_meaning.specs.Meaning.{call_depth, on_own}
 use Rattle.sial_meaning.specs.Own.{Own, value_of, bound, none_bound, with_values}
-use Rattle.sial_meaning.specs.Rest.{Rest, Over, Next, Turn, Join, Back, Within, Work, Stepped, Moved, Halted, Ended, depth, push, entered, turned, branched, called, done, start_work}
+use Rattle.sial_meaning.specs.Control.{entered, turned, branched, called}
+use Rattle.sial_meaning.specs.Rest.{LoopAt, Rest, Over, Next, Turn, Join, Back, Within, depth, push}
+use Rattle.sial_meaning.specs.Step.{Work, Stepped, Moved, Halted, Ended, led, done, start_work}
 use Rattle.sial_meaning.specs.Setting.{Setting, procedure_body}
 use Rattle.sial_meaning.specs.State.{State}
 use Rattle.sial_meaning.specs.Statement.{Outcome, Went, Stopped}
@@ -77,10 +79,10 @@ module _ (g : Setting) (set : IsGrantedSetting g) where
   abbrev pub RestStands : (d : ℕ) → List ℕ → Rest → Type 0
   RestStands d indices (Over at) = Unit {0}
   RestStands d indices (Next at line form rest) = FormStands d indices line form × RestStands d indices rest
-  RestStands d indices (Turn at head index last body rest) = (others : List ℕ) × (indices ≡ index ∷ others) × BodyStands d (index ∷ others) body × RestStands d others rest
+  RestStands d indices (Turn loop last rest) = (others : List ℕ) × (indices ≡ loop.index ∷ others) × BodyStands d (loop.index ∷ others) loop.body × RestStands d others rest
   RestStands d indices (Join at rest) = RestStands d indices rest
   RestStands d indices (Back at values rest) = (others : List ℕ) × ((own : Own) → Numbered g others (with_values values own)) × RestStands (suc d) others rest
-  RestStands d indices (Within at head these wheres body number rest) = ⊥
+  RestStands d indices (Within pardo number rest) = ⊥
 
   -- what is left, with the state in which it is left
   pub record FitAt (d : ℕ) (indices : List ℕ) (r : Rest) (own : Own) : Type 0 where
@@ -137,55 +139,55 @@ module _ (g : Setting) (set : IsGrantedSetting g) where
       fit_of d indices (push at body r) s (ap (λ n. d + n) (depth_pushed at body r) ∙ deep) (push_stands d indices at body r stands others) numbered
 
   -- a loop entered
-  pub entered_fit : (d : ℕ) (indices : List ℕ) (at head index first count : ℕ) (body : Block) (rest : Rest) (s : State) → d + depth rest ≡ call_depth → BodyStands d (index ∷ indices) body → RestStands d indices rest → Numbered g indices s.own → FitTo (entered at head index first count body rest s)
-  entered_fit d indices at head index first zero body rest s deep stands others numbered =
+  pub entered_fit : (d : ℕ) (indices : List ℕ) (loop : LoopAt) (first count : ℕ) (rest : Rest) (s : State) → d + depth rest ≡ call_depth → BodyStands d (loop.index ∷ indices) loop.body → RestStands d indices rest → Numbered g indices s.own → FitTo (led s (entered loop first count rest s.own))
+  entered_fit d indices loop first zero rest s deep stands others numbered =
       fit_of
       d
       indices
       rest
-      (on_own (bound index 0) s)
+      (on_own (bound loop.index 0) s)
       deep
       others
-      (record { len = length-set s.own.values index 0 ∙ numbered.len; only = only_left indices index s.own (only_more indices index s.own numbered.only) })
-  entered_fit d indices at head index first (suc n) body rest s deep stands others numbered =
+      (record { len = length-set s.own.values loop.index 0 ∙ numbered.len; only = only_left indices loop.index s.own (only_more indices loop.index s.own numbered.only) })
+  entered_fit d indices loop first (suc n) rest s deep stands others numbered =
       fit_pushed
       d
-      (index ∷ indices)
-      (head + 1)
-      body
-      (Turn at head index (first + n) body rest)
-      (on_own (bound index first) s)
+      (loop.index ∷ indices)
+      (loop.head + 1)
+      loop.body
+      (Turn loop (first + n) rest)
+      (on_own (bound loop.index first) s)
       deep
       stands
       (indices, refl, stands, others)
-      (record { len = length-set s.own.values index first ∙ numbered.len; only = only_into indices index first s.own numbered.only })
+      (record { len = length-set s.own.values loop.index first ∙ numbered.len; only = only_into indices loop.index first s.own numbered.only })
 
   -- the end of a loop's body
-  pub turned_fit : (d : ℕ) (indices : List ℕ) (more : Bool) (at head index last : ℕ) (body : Block) (rest : Rest) (s : State) → d + depth rest ≡ call_depth → BodyStands d (index ∷ indices) body → RestStands d indices rest → Numbered g (index ∷ indices) s.own → FitTo (turned more at head index last body rest s)
-  turned_fit d indices true at head index last body rest s deep stands others numbered =
+  pub turned_fit : (d : ℕ) (indices : List ℕ) (more : Bool) (loop : LoopAt) (last : ℕ) (rest : Rest) (s : State) → d + depth rest ≡ call_depth → BodyStands d (loop.index ∷ indices) loop.body → RestStands d indices rest → Numbered g (loop.index ∷ indices) s.own → FitTo (led s (turned more loop last rest s.own))
+  turned_fit d indices true loop last rest s deep stands others numbered =
       fit_pushed
       d
-      (index ∷ indices)
-      (head + 1)
-      body
-      (Turn at head index last body rest)
-      (on_own (bound index (value_of s.own index + 1)) s)
+      (loop.index ∷ indices)
+      (loop.head + 1)
+      loop.body
+      (Turn loop last rest)
+      (on_own (bound loop.index (value_of s.own loop.index + 1)) s)
       deep
       stands
       (indices, refl, stands, others)
-      (record { len = length-set s.own.values index (value_of s.own index + 1) ∙ numbered.len; only = only_again indices index (value_of s.own index + 1) s.own numbered.only })
-  turned_fit d indices false at head index last body rest s deep stands others numbered =
+      (record { len = length-set s.own.values loop.index (value_of s.own loop.index + 1) ∙ numbered.len; only = only_again indices loop.index (value_of s.own loop.index + 1) s.own numbered.only })
+  turned_fit d indices false loop last rest s deep stands others numbered =
       fit_of
       d
       indices
       rest
-      (on_own (bound index 0) s)
+      (on_own (bound loop.index 0) s)
       deep
       others
-      (record { len = length-set s.own.values index 0 ∙ numbered.len; only = only_left indices index s.own numbered.only })
+      (record { len = length-set s.own.values loop.index 0 ∙ numbered.len; only = only_left indices loop.index s.own numbered.only })
 
   -- a branch
-  pub branched_fit : (line : ℕ) (answer : Answer Bool) (met unmet : Rest) (s : State) → Fit (record { rest = met; state = s }) → Fit (record { rest = unmet; state = s }) → FitTo (branched line answer met unmet s)
+  pub branched_fit : (line : ℕ) (answer : Answer Bool) (met unmet : Rest) (s : State) → Fit (record { rest = met; state = s }) → Fit (record { rest = unmet; state = s }) → FitTo (led s (branched line answer met unmet s.own))
   branched_fit line (Ok true) met unmet s a b = a
   branched_fit line (Ok false) met unmet s a b = b
   branched_fit line (Err kind) met unmet s a b = tt
@@ -203,7 +205,7 @@ module _ (g : Setting) (set : IsGrantedSetting g) where
       record { proper = sound.proper; unbroken = sound.unbroken; outer = λ v m. procedure_outer g set d q called flat v m }
 
   -- a call
-  pub called_fit : (d : ℕ) (indices : List ℕ) (more : Bool) (q : ℕ) (rest : Rest) (s : State) → d + depth rest ≡ call_depth → CalledOutside g set q → shallow g.program d q ≡ true → RestStands d indices rest → Numbered g indices s.own → FitTo (called g more q rest s)
+  pub called_fit : (d : ℕ) (indices : List ℕ) (more : Bool) (q : ℕ) (rest : Rest) (s : State) → d + depth rest ≡ call_depth → CalledOutside g set q → shallow g.program d q ≡ true → RestStands d indices rest → Numbered g indices s.own → FitTo (led s (called g more q rest s.own))
   called_fit d indices false q rest s deep outside flat others numbered = fit_of d indices rest s deep others numbered
   called_fit zero indices true q rest s deep outside flat others numbered = absurd cc
   called_fit (suc d) indices true q rest s deep outside flat others numbered =

@@ -10,7 +10,8 @@ use Rattle.sial_meaning.specs.CourseLaws.{CourseGoesOn}
 use Rattle.sial_meaning.specs.Sound.{IsGrantedSetting}
 use Rattle.sial_meaning.specs.Meaning.{form_meaning, calls, call_depth, on_own}
 use Rattle.sial_meaning.specs.Own.{unset}
-use Rattle.sial_meaning.specs.Rest.{Rest, Over, Next, Turn, Join, Back, Within, Work, Stepped, Moved, Halted, Ended, depth, done, step, step_from, go_on, steps}
+use Rattle.sial_meaning.specs.Rest.{Rest, Over, Next, Turn, Join, Back, Within, depth}
+use Rattle.sial_meaning.specs.Step.{Work, Stepped, Moved, Halted, Ended, done, step, step_from, go_on, steps}
 use Rattle.sial_meaning.specs.Setting.{Setting}
 use Rattle.sial_meaning.specs.State.{State}
 use Rattle.sial_meaning.specs.Statement.{Outcome, Went, Stopped, Reading, Copied}
@@ -36,10 +37,10 @@ go_add reading g a b Ended = refl
 abbrev items : Rest → ℕ
 items (Over at) = 0
 items (Next at line form rest) = suc (items rest)
-items (Turn at head index last body rest) = suc (items rest)
+items (Turn loop last rest) = suc (items rest)
 items (Join at rest) = suc (items rest)
 items (Back at values rest) = suc (items rest)
-items (Within at head indices wheres body number rest) = suc (items rest)
+items (Within pardo number rest) = suc (items rest)
 
 -- the things left to do where steps led
 abbrev items_at : Stepped → ℕ
@@ -127,7 +128,7 @@ module _ (g : Setting) (set : IsGrantedSetting g) where
       f.at.numbered.len))
       (pardo_follows g set f.d f.indices these wheres body stands.0 s f.at.numbered.only rest)
   onward (Next at line form rest) s f = onward_step g (record { rest = Next at line form rest; state = s }) (step_from Copied g (Next at line form rest) s) refl
-  onward (Within at head these wheres body number rest) s f = absurd f.at.stands
+  onward (Within pardo number rest) s f = absurd f.at.stands
   onward r s f = onward_step g (record { rest = r; state = s }) (step_from Copied g r s) refl
 
   -- the traps where a step that isn't a pardo's leads

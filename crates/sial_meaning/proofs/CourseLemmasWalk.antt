@@ -7,7 +7,8 @@ use Rattle.sial_meaning.specs.Course.{Point, next_point, course}
 use Rattle.sial_meaning.specs.CourseLaws.{StepsReachTheCourse, NotesFirst, Follows, CourseFollowsTheFold, FirstTrapIsTheFolds}
 use Rattle.sial_meaning.specs.Sound.{IsGrantedSetting}
 use Rattle.sial_meaning.specs.Meaning.{by_epochs}
-use Rattle.sial_meaning.specs.Rest.{Over, Work, Stepped, Moved, Halted, Ended, done, step, go_on, steps, start_work}
+use Rattle.sial_meaning.specs.Rest.{Over}
+use Rattle.sial_meaning.specs.Step.{Work, Stepped, Moved, Halted, Ended, done, step, go_on, steps, start_work}
 use Rattle.sial_meaning.specs.Setting.{Setting}
 use Rattle.sial_meaning.specs.State.{State}
 use Rattle.sial_meaning.specs.Statement.{Outcome, Went, Stopped, Copied}

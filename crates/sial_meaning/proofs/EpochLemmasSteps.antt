@@ -2,7 +2,6 @@
 use Rattle.std.proofs.Common.{◌≡◌, ℕ, zero, suc, ◌+◌, List, [], Bool, true, false, ◌&&◌, ◌⊎◌, ◌↔◌, Some, Ok, Err, length, nat_lt, refl, sym, ap, ◌∙◌, subst, inl, inr, IsTrue}
 use Rattle.std.specs.List.{list_all}
 use Rattle.sial_syntax.proofs.DepthLemmas.{procedure_there, body_there}
-use Rattle.sial_syntax.specs.declared.condition.Cond.{Cond}
 use Rattle.sial_syntax.specs.Boxes.{volume, tuple_at}
 use Rattle.sial_syntax.specs.Limits.{most_pardo}
 use Rattle.sial_syntax.specs.Numbering.{size, sizes, entry_of, stop_at}
@@ -13,9 +12,11 @@ use Rattle.sial_meaning.specs.Accepted.{log_of}
 use Rattle.sial_meaning.specs.Access.{Touch, first_clash}
 use Rattle.sial_meaning.specs.EpochLaws.{IsUnclashed}
 use Rattle.sial_meaning.specs.LocalStep.{Answer}
-use Rattle.sial_meaning.specs.Meaning.{call_depth, condition, on_own, taken_up, all_met}
-use Rattle.sial_meaning.specs.Own.{value_of}
-use Rattle.sial_meaning.specs.Rest.{Rest, Over, Next, Turn, Join, Back, Within, Stepped, Moved, Halted, Ended, depth, push, entered, turned, branched, called, begun, went_within, done, next_step, step, step_from, go_on, steps, start_work}
+use Rattle.sial_meaning.specs.Meaning.{call_depth, condition, taken_up, all_met}
+use Rattle.sial_meaning.specs.Own.{Own, value_of}
+use Rattle.sial_meaning.specs.Control.{entered, turned, branched, called, begun, went_within, loop_at}
+use Rattle.sial_meaning.specs.Rest.{LoopAt, PardoAt, Rest, Over, Next, Turn, Join, Back, Within, depth, push}
+use Rattle.sial_meaning.specs.Step.{Stepped, Moved, Halted, Ended, led, done, step, step_from, go_on, steps, start_work}
 use Rattle.sial_meaning.specs.Setting.{Setting, procedure_body}
 use Rattle.sial_meaning.specs.State.{State}
 use Rattle.sial_meaning.specs.Statement.{Outcome, Went, Stopped, Reading, Present, Copied, statement}
@@ -29,10 +30,10 @@ use Rattle.sial_meaning.proofs.RestLemmasRules.{both}
 abbrev pub ProperRest : Tree → Rest → Type 0
 ProperRest p (Over at) = Unit {0}
 ProperRest p (Next at line form rest) = IsTrue (proper_form p form) × ProperRest p rest
-ProperRest p (Turn at head index last body rest) = IsTrue (proper_body p body) × ProperRest p rest
+ProperRest p (Turn loop last rest) = IsTrue (proper_body p loop.body) × ProperRest p rest
 ProperRest p (Join at rest) = ProperRest p rest
 ProperRest p (Back at values rest) = ProperRest p rest
-ProperRest p (Within at head indices wheres body number rest) = IsTrue (proper_body p body) × ProperRest p rest
+ProperRest p (Within pardo number rest) = IsTrue (proper_body p pardo.body) × ProperRest p rest
 
 -- steps led to proper work in a fine state, to a trap, or nowhere
 abbrev FineAt : Tree → Stepped → Type 0
@@ -68,39 +69,39 @@ same_at : (program : Tree) (t : Stepped) → FineAt program t → AgreeAt progra
 same_at program t fine = inl (refl, fine)
 
 -- a loop entered leaves a fine state
-entered_fine : (p : Tree) (at head index first count : ℕ) (body : Block) (rest : Rest) (s : State) → IsTrue (proper_body p body) → ProperRest p rest → Fine s → FineAt p (entered at head index first count body rest s)
-entered_fine p at head index first zero body rest s there proper fine = (proper, fine)
-entered_fine p at head index first (suc n) body rest s there proper fine = (pushed p (head + 1) body (Turn at head index (first + n) body rest) there (there, proper), fine)
+entered_fine : (p : Tree) (loop : LoopAt) (first count : ℕ) (rest : Rest) (s : State) → IsTrue (proper_body p loop.body) → ProperRest p rest → Fine s → FineAt p (led s (entered loop first count rest s.own))
+entered_fine p loop first zero rest s there proper fine = (proper, fine)
+entered_fine p loop first (suc n) rest s there proper fine = (pushed p (loop.head + 1) loop.body (Turn loop (first + n) rest) there (there, proper), fine)
 
 -- so does the end of a loop's body
-turned_fine : (p : Tree) (more : Bool) (at head index last : ℕ) (body : Block) (rest : Rest) (s : State) → IsTrue (proper_body p body) → ProperRest p rest → Fine s → FineAt p (turned more at head index last body rest s)
-turned_fine p true at head index last body rest s there proper fine = (pushed p (head + 1) body (Turn at head index last body rest) there (there, proper), fine)
-turned_fine p false at head index last body rest s there proper fine = (proper, fine)
+turned_fine : (p : Tree) (more : Bool) (loop : LoopAt) (last : ℕ) (rest : Rest) (s : State) → IsTrue (proper_body p loop.body) → ProperRest p rest → Fine s → FineAt p (led s (turned more loop last rest s.own))
+turned_fine p true loop last rest s there proper fine = (pushed p (loop.head + 1) loop.body (Turn loop last rest) there (there, proper), fine)
+turned_fine p false loop last rest s there proper fine = (proper, fine)
 
 -- so does a branch
-branched_fine : (p : Tree) (line : ℕ) (answer : Answer Bool) (met unmet : Rest) (s : State) → ProperRest p met → ProperRest p unmet → Fine s → FineAt p (branched line answer met unmet s)
+branched_fine : (p : Tree) (line : ℕ) (answer : Answer Bool) (met unmet : Rest) (s : State) → ProperRest p met → ProperRest p unmet → Fine s → FineAt p (led s (branched line answer met unmet s.own))
 branched_fine p line (Ok true) met unmet s a b fine = (a, fine)
 branched_fine p line (Ok false) met unmet s a b fine = (b, fine)
 branched_fine p line (Err kind) met unmet s a b fine = tt
 
 -- so does a call
-called_fine : (g : Setting) (more : Bool) (procedure : ℕ) (rest : Rest) (s : State) → IsTrue (proper_body g.program (procedure_body g procedure)) → ProperRest g.program rest → Fine s → FineAt g.program (called g more procedure rest s)
+called_fine : (g : Setting) (more : Bool) (procedure : ℕ) (rest : Rest) (s : State) → IsTrue (proper_body g.program (procedure_body g procedure)) → ProperRest g.program rest → Fine s → FineAt g.program (led s (called g more procedure rest s.own))
 called_fine g true procedure rest s there proper fine =
     (pushed g.program (entry_of g.program procedure) (procedure_body g procedure) (Back (entry_of g.program procedure + sizes (procedure_body g procedure)) s.own.values rest) there proper, fine)
 called_fine g false procedure rest s there proper fine = (proper, fine)
 
 -- so does a tuple taken up
-begun_fine : (p : Tree) (met : Bool) (at head : ℕ) (indices : List ℕ) (wheres : List Cond) (body : Block) (number : ℕ) (rest : Rest) (s : State) → IsTrue (proper_body p body) → ProperRest p rest → Fine s → FineAt p (begun met at head indices wheres body number rest s)
-begun_fine p true at head indices wheres body number rest s there proper fine =
-    (pushed p (head + 1 + length wheres) body (Within at head indices wheres body (number + 1) rest) there (there, proper), fine)
-begun_fine p false at head indices wheres body number rest s there proper fine = ((there, proper), fine)
+begun_fine : (p : Tree) (met : Bool) (pardo : PardoAt) (number : ℕ) (rest : Rest) (s : State) (own : Own) → IsTrue (proper_body p pardo.body) → ProperRest p rest → Fine s → FineAt p (led s (begun met pardo number rest own))
+begun_fine p true pardo number rest s own there proper fine =
+    (pushed p (pardo.head + 1 + length pardo.wheres) pardo.body (Within pardo (number + 1) rest) there (there, proper), fine)
+begun_fine p false pardo number rest s own there proper fine = ((there, proper), fine)
 
 -- so does a pardo in progress
-within_fine : (g : Setting) (more : Bool) (at head : ℕ) (indices : List ℕ) (wheres : List Cond) (body : Block) (number : ℕ) (rest : Rest) (s : State) → IsTrue (proper_body g.program body) → ProperRest g.program rest → Fine s → FineAt g.program (went_within g more at head indices wheres body number rest s)
-within_fine g true at head indices wheres body number rest s there proper fine =
-    let t : State = on_own (taken_up g indices (tuple_at (box_of g.spaces indices) number)) s in
-    begun_fine g.program (all_met t.own wheres) at head indices wheres body number rest t there proper fine
-within_fine g false at head indices wheres body number rest s there proper fine = (proper, fine)
+within_fine : (g : Setting) (more : Bool) (pardo : PardoAt) (number : ℕ) (rest : Rest) (s : State) → IsTrue (proper_body g.program pardo.body) → ProperRest g.program rest → Fine s → FineAt g.program (led s (went_within g more pardo number rest s.own))
+within_fine g true pardo number rest s there proper fine =
+    let held : Own = taken_up g pardo.indices (tuple_at (box_of g.spaces pardo.indices) number) s.own in
+    begun_fine g.program (all_met held pardo.wheres) pardo number rest s held there proper fine
+within_fine g false pardo number rest s there proper fine = (proper, fine)
 
 -- so does a statement that holds no other
 done_fine : (p : Tree) (o : Outcome) (rest : Rest) → ProperRest p rest → FineTo o → FineAt p (done o rest)
@@ -124,14 +125,14 @@ done_agrees p present copied rest proper (inr parted) = inr (record {
 
 module _ (g : Setting) (proper : IsProper g.program) where
   -- a statement at the head
-  next_agrees : (at line : ℕ) (form : Plain) (rest : Rest) (s : State) → IsTrue (proper_form g.program form) → ProperRest g.program rest → Fine s → AgreeAt g.program (next_step Present g at line form rest s) (next_step Copied g at line form rest s)
+  next_agrees : (at line : ℕ) (form : Plain) (rest : Rest) (s : State) → IsTrue (proper_form g.program form) → ProperRest g.program rest → Fine s → AgreeAt g.program (step_from Present g (Next at line form rest) s) (step_from Copied g (Next at line form rest) s)
   next_agrees at line (Do index body) rest s there others fine =
       let parts = both (has_index g.program index) (proper_body g.program body) there in
-      inl (refl, entered_fine g.program (at + 1 + sizes body) at index (first_of g.spaces index) (count_of g.spaces index) body rest s parts.1 others fine)
+      inl (refl, entered_fine g.program (loop_at at index body) (first_of g.spaces index) (count_of g.spaces index) rest s parts.1 others fine)
   next_agrees at line (DoIn sub index body) rest s there others fine =
       let first = both (has_index g.program sub) (has_index g.program index && proper_body g.program body) there in
       let parts = both (has_index g.program index) (proper_body g.program body) first.1 in
-      inl (refl, entered_fine g.program (at + 1 + sizes body) at sub 1 (pieces_of g.spaces sub (value_of s.own index)) body rest s parts.1 others fine)
+      inl (refl, entered_fine g.program (loop_at at sub body) 1 (pieces_of g.spaces sub (value_of s.own index)) rest s parts.1 others fine)
   next_agrees at line (Pardo indices wheres body) rest s there others fine =
       let ranked = both (has_length most_pardo indices) (list_all (has_index g.program) indices && (list_all (proper_cond g.program) wheres && proper_body g.program body)) there in
       let indexed = both (list_all (has_index g.program) indices) (list_all (proper_cond g.program) wheres && proper_body g.program body) ranked.1 in
@@ -165,49 +166,49 @@ module _ (g : Setting) (proper : IsProper g.program) where
   step_agrees : (r : Rest) (s : State) → ProperRest g.program r → Fine s → AgreeAt g.program (step_from Present g r s) (step_from Copied g r s)
   step_agrees (Over at) s there fine = inl (refl, tt)
   step_agrees (Next at line form rest) s there fine = next_agrees at line form rest s there.0 there.1 fine
-  step_agrees (Turn at head index last body rest) s there fine = inl (refl, turned_fine g.program (nat_lt (value_of s.own index) last) at head index last body rest s there.0 there.1 fine)
+  step_agrees (Turn loop last rest) s there fine = inl (refl, turned_fine g.program (nat_lt (value_of s.own loop.index) last) loop last rest s there.0 there.1 fine)
   step_agrees (Join at rest) s there fine = inl (refl, (there, fine))
   step_agrees (Back at values rest) s there fine = inl (refl, (there, fine))
-  step_agrees (Within at head indices wheres body number rest) s there fine =
-      inl (refl, within_fine g (nat_lt number (volume (box_of g.spaces indices))) at head indices wheres body number rest s there.0 there.1 fine)
+  step_agrees (Within pardo number rest) s there fine =
+      inl (refl, within_fine g (nat_lt number (volume (box_of g.spaces pardo.indices))) pardo number rest s there.0 there.1 fine)
 
 module _ (reading : Reading) (g : Setting) where
   -- a loop entered logs nothing
-  entered_extends : (at head index first count : ℕ) (body : Block) (rest : Rest) (s : State) → ExtendsAt s.log (entered at head index first count body rest s)
-  entered_extends at head index first zero body rest s = extends_same s.log
-  entered_extends at head index first (suc n) body rest s = extends_same s.log
+  entered_extends : (loop : LoopAt) (first count : ℕ) (rest : Rest) (s : State) → ExtendsAt s.log (led s (entered loop first count rest s.own))
+  entered_extends loop first zero rest s = extends_same s.log
+  entered_extends loop first (suc n) rest s = extends_same s.log
 
   -- nor does the end of a loop's body
-  turned_extends : (more : Bool) (at head index last : ℕ) (body : Block) (rest : Rest) (s : State) → ExtendsAt s.log (turned more at head index last body rest s)
-  turned_extends true at head index last body rest s = extends_same s.log
-  turned_extends false at head index last body rest s = extends_same s.log
+  turned_extends : (more : Bool) (loop : LoopAt) (last : ℕ) (rest : Rest) (s : State) → ExtendsAt s.log (led s (turned more loop last rest s.own))
+  turned_extends true loop last rest s = extends_same s.log
+  turned_extends false loop last rest s = extends_same s.log
 
   -- nor does a branch
-  branched_extends : (line : ℕ) (answer : Answer Bool) (met unmet : Rest) (s : State) → ExtendsAt s.log (branched line answer met unmet s)
+  branched_extends : (line : ℕ) (answer : Answer Bool) (met unmet : Rest) (s : State) → ExtendsAt s.log (led s (branched line answer met unmet s.own))
   branched_extends line (Ok true) met unmet s = extends_same s.log
   branched_extends line (Ok false) met unmet s = extends_same s.log
   branched_extends line (Err kind) met unmet s = extends_same s.log
 
   -- nor does a call
-  called_extends : (more : Bool) (procedure : ℕ) (rest : Rest) (s : State) → ExtendsAt s.log (called g more procedure rest s)
+  called_extends : (more : Bool) (procedure : ℕ) (rest : Rest) (s : State) → ExtendsAt s.log (led s (called g more procedure rest s.own))
   called_extends true procedure rest s = extends_same s.log
   called_extends false procedure rest s = extends_same s.log
 
   -- nor does a tuple taken up
-  begun_extends : (met : Bool) (at head : ℕ) (indices : List ℕ) (wheres : List Cond) (body : Block) (number : ℕ) (rest : Rest) (s : State) → ExtendsAt s.log (begun met at head indices wheres body number rest s)
-  begun_extends true at head indices wheres body number rest s = extends_same s.log
-  begun_extends false at head indices wheres body number rest s = extends_same s.log
+  begun_extends : (met : Bool) (pardo : PardoAt) (number : ℕ) (rest : Rest) (s : State) (own : Own) → ExtendsAt s.log (led s (begun met pardo number rest own))
+  begun_extends true pardo number rest s own = extends_same s.log
+  begun_extends false pardo number rest s own = extends_same s.log
 
   -- nor does a pardo in progress
-  within_extends : (more : Bool) (at head : ℕ) (indices : List ℕ) (wheres : List Cond) (body : Block) (number : ℕ) (rest : Rest) (s : State) → ExtendsAt s.log (went_within g more at head indices wheres body number rest s)
-  within_extends true at head indices wheres body number rest s =
-      let t : State = on_own (taken_up g indices (tuple_at (box_of g.spaces indices) number)) s in begun_extends (all_met t.own wheres) at head indices wheres body number rest t
-  within_extends false at head indices wheres body number rest s = extends_same s.log
+  within_extends : (more : Bool) (pardo : PardoAt) (number : ℕ) (rest : Rest) (s : State) → ExtendsAt s.log (led s (went_within g more pardo number rest s.own))
+  within_extends true pardo number rest s =
+      let held : Own = taken_up g pardo.indices (tuple_at (box_of g.spaces pardo.indices) number) s.own in begun_extends (all_met held pardo.wheres) pardo number rest s held
+  within_extends false pardo number rest s = extends_same s.log
 
   -- a statement at the head logs behind what was logged
-  next_extends : (at line : ℕ) (form : Plain) (rest : Rest) (s : State) → ExtendsAt s.log (next_step reading g at line form rest s)
-  next_extends at line (Do index body) rest s = entered_extends (at + 1 + sizes body) at index (first_of g.spaces index) (count_of g.spaces index) body rest s
-  next_extends at line (DoIn sub index body) rest s = entered_extends (at + 1 + sizes body) at sub 1 (pieces_of g.spaces sub (value_of s.own index)) body rest s
+  next_extends : (at line : ℕ) (form : Plain) (rest : Rest) (s : State) → ExtendsAt s.log (step_from reading g (Next at line form rest) s)
+  next_extends at line (Do index body) rest s = entered_extends (loop_at at index body) (first_of g.spaces index) (count_of g.spaces index) rest s
+  next_extends at line (DoIn sub index body) rest s = entered_extends (loop_at at sub body) 1 (pieces_of g.spaces sub (value_of s.own index)) rest s
   next_extends at line (Pardo indices wheres body) rest s = extends_same s.log
   next_extends at line (If test body) rest s = branched_extends line (condition s.own test) (push (at + 1) body (Join (at + 1 + sizes body) rest)) rest s
   next_extends at line (IfElse test body other) rest s =
@@ -219,10 +220,10 @@ module _ (reading : Reading) (g : Setting) where
   pub step_extends : (r : Rest) (s : State) → ExtendsAt s.log (step_from reading g r s)
   step_extends (Over at) s = tt
   step_extends (Next at line form rest) s = next_extends at line form rest s
-  step_extends (Turn at head index last body rest) s = turned_extends (nat_lt (value_of s.own index) last) at head index last body rest s
+  step_extends (Turn loop last rest) s = turned_extends (nat_lt (value_of s.own loop.index) last) loop last rest s
   step_extends (Join at rest) s = extends_same s.log
   step_extends (Back at values rest) s = extends_same s.log
-  step_extends (Within at head indices wheres body number rest) s = within_extends (nat_lt number (volume (box_of g.spaces indices))) at head indices wheres body number rest s
+  step_extends (Within pardo number rest) s = within_extends (nat_lt number (volume (box_of g.spaces pardo.indices))) pardo number rest s
 
   -- what is logged behind a log that goes on
   at_then : (a b : List Touch) (t : Stepped) → Extends a b → ExtendsAt b t → ExtendsAt a t

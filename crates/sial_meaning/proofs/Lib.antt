@@ -3,6 +3,7 @@ pub mod EpochLemmasFine
 pub mod EpochLemmasFold
 pub mod EpochLemmasStatement
 pub mod EpochLemmasSteps
+pub mod NextLemmas
 pub mod RestLemmas
 pub mod RestLemmasBound
 pub mod RestLemmasFold

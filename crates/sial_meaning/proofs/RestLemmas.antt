@@ -1,6 +1,7 @@
 -- Where steps of the rest of the work lead.
 use Rattle.std.proofs.Common.{◌≡◌, ℕ, zero, suc, refl, sym, subst}
-use Rattle.sial_meaning.specs.Rest.{Rest, Join, Work, Stepped, Moved, Halted, Ended, moved, done, step, step_from, go_on, steps}
+use Rattle.sial_meaning.specs.Rest.{Rest, Join}
+use Rattle.sial_meaning.specs.Step.{Work, Stepped, Moved, Halted, Ended, moved, done, step, step_from, go_on, steps}
 use Rattle.sial_meaning.specs.Setting.{Setting}
 use Rattle.sial_meaning.specs.State.{State}
 use Rattle.sial_meaning.specs.Statement.{Outcome, Went, Stopped, after, Reading}

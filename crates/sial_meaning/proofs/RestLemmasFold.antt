@@ -16,7 +16,9 @@ use Rattle.sial_syntax.specs.Visits.{visits, inner_visits}
 use Rattle.sial_meaning.specs.Laws.{ReachesFold}
 use Rattle.sial_meaning.specs.Meaning.{block_meaning, form_meaning, calls, call_depth, condition, over, on_own, then_own, iteration, taken_up, left}
 use Rattle.sial_meaning.specs.Own.{value_of, none_bound, with_values, unset}
-use Rattle.sial_meaning.specs.Rest.{Rest, Over, Next, Turn, Join, Back, Within, depth, moved, push, called, done}
+use Rattle.sial_meaning.specs.Control.{called, loop_at, pardo_at}
+use Rattle.sial_meaning.specs.Rest.{Rest, Over, Next, Turn, Join, Back, Within, depth, push}
+use Rattle.sial_meaning.specs.Step.{moved, led, done}
 use Rattle.sial_meaning.specs.Setting.{Setting, procedure_body}
 use Rattle.sial_meaning.specs.State.{State, start_state}
 use Rattle.sial_meaning.specs.Statement.{Outcome, Went, Reading, statement}
@@ -72,18 +74,15 @@ module _ (reading : Reading) (g : Setting) (proper : IsProper g.program) (grante
           (comes_entered
           reading
           g
-          (at + 1 + sizes body)
-          at
-          index
+          (loop_at at index body)
           (first_of g.spaces index)
           (count_of g.spaces index)
-          body
           r
           (block_meaning reading g (calls reading g d) body)
           (length g.program.indices)
           (ltb-true index (length g.program.indices) parts.0)
           (λ t t1 l went. let k = body_keeps (index ∷ indices) within body e t t1 l went in (k.len ∙ l, k.same index (first_among index indices)))
-          (λ last t l. block_leads (index ∷ indices) within body parts.1 e (at + 1) (Turn (at + 1 + sizes body) at index last body r) t deep l)
+          (λ last t l. block_leads (index ∷ indices) within body parts.1 e (at + 1) (Turn (loop_at at index body) last r) t deep l)
           s
           len)
       form_leads indices within (DoIn sub index body) there out e at line r s deep len =
@@ -98,18 +97,15 @@ module _ (reading : Reading) (g : Setting) (proper : IsProper g.program) (grante
           (comes_entered
           reading
           g
-          (at + 1 + sizes body)
-          at
-          sub
+          (loop_at at sub body)
           1
           (pieces_of g.spaces sub (value_of s.own index))
-          body
           r
           (block_meaning reading g (calls reading g d) body)
           (length g.program.indices)
           (ltb-true sub (length g.program.indices) parts.0)
           (λ t t1 l went. let k = body_keeps (sub ∷ indices) within body e t t1 l went in (k.len ∙ l, k.same sub (first_among sub indices)))
-          (λ last t l. block_leads (sub ∷ indices) within body others.1 e (at + 1) (Turn (at + 1 + sizes body) at sub last body r) t deep l)
+          (λ last t l. block_leads (sub ∷ indices) within body others.1 e (at + 1) (Turn (loop_at at sub body) last r) t deep l)
           s
           len)
       form_leads indices within (Pardo these wheres body) there out e at line r s deep len =
@@ -126,26 +122,22 @@ module _ (reading : Reading) (g : Setting) (proper : IsProper g.program) (grante
           (comes_moved
           reading
           g
-          (Within (at + 1 + length wheres + sizes body) at these wheres body 0 r)
+          (Within (pardo_at at these wheres body) 0 r)
           (on_own (unset g) s)
           (done (then_own (over (tuples (box_of g.spaces these)) turn (on_own (unset g) s)) (left g these)) r)
           (subst
-          (λ (o : Outcome). Leads reading g (Within (at + 1 + length wheres + sizes body) at these wheres body 0 r) (on_own (unset g) s) (done (then_own o (left g these)) r))
+          (λ (o : Outcome). Leads reading g (Within (pardo_at at these wheres body) 0 r) (on_own (unset g) s) (done (then_own o (left g these)) r))
           (sym (over_box (box_of g.spaces these) turn (on_own (unset g) s)))
           (leads_within
           reading
           g
-          (at + 1 + length wheres + sizes body)
-          at
-          these
-          wheres
-          body
+          (pardo_at at these wheres body)
           r
           (block_meaning reading g (calls reading g d) body)
           (length g.program.indices)
           (λ tuple t l. all_bound_len these (onto_firsts g.spaces these tuple) (unset g t.own) ∙ l)
           (λ t t1 l went. (body_keeps (these ++ indices) true body e t t1 l went).len ∙ l)
-          (λ number t l. block_leads (these ++ indices) true body parts.1 e (at + 1 + length wheres) (Within (at + 1 + length wheres + sizes body) at these wheres body number r) t deep l)
+          (λ number t l. block_leads (these ++ indices) true body parts.1 e (at + 1 + length wheres) (Within (pardo_at at these wheres body) number r) t deep l)
           (volume (box_of g.spaces these))
           0
           (omega arith)
@@ -233,7 +225,7 @@ module _ (reading : Reading) (g : Setting) (proper : IsProper g.program) (grante
       s
       (moved r s)
       (subst
-      (λ (b : Bool). Comes reading g (called g b procedure r s) (moved r s))
+      (λ (b : Bool). Comes reading g (led s (called g b procedure r s.own)) (moved r s))
       (sym (le-ltb (depth r) call_depth (omega (arith, deep))))
       (comes_here reading g (moved r s)))
   calls_lead (suc d) procedure at line r s deep len =
@@ -248,7 +240,7 @@ module _ (reading : Reading) (g : Setting) (proper : IsProper g.program) (grante
       s
       (done (then_own o (with_values s.own.values)) r)
       (subst
-      (λ (b : Bool). Comes reading g (called g b procedure r s) (done (then_own o (with_values s.own.values)) r))
+      (λ (b : Bool). Comes reading g (led s (called g b procedure r s.own)) (done (then_own o (with_values s.own.values)) r))
       (sym (lt-ltb (depth r) call_depth (omega (arith, deep))))
       (comes_moved
       reading

@@ -13,7 +13,9 @@ use Rattle.sial_syntax.specs.Visits.{visits, inner_visits}
 use Rattle.sial_meaning.specs.LocalStep.{Answer}
 use Rattle.sial_meaning.specs.Meaning.{on_own}
 use Rattle.sial_meaning.specs.Own.{value_of}
-use Rattle.sial_meaning.specs.Rest.{Rest, Over, Next, Turn, Join, Back, Within, Stepped, Moved, Halted, Ended, push, entered, turned, branched, called}
+use Rattle.sial_meaning.specs.Control.{entered, turned, branched, called}
+use Rattle.sial_meaning.specs.Rest.{LoopAt, Rest, Over, Next, Turn, Join, Back, Within, push}
+use Rattle.sial_meaning.specs.Step.{Stepped, Moved, Halted, Ended, led}
 use Rattle.sial_meaning.specs.Setting.{Setting, procedure_body}
 use Rattle.sial_meaning.specs.Sound.{IsSound}
 use Rattle.sial_meaning.specs.State.{State}
@@ -37,13 +39,13 @@ abbrev pub GoodRest : Setting → (indices : List ℕ) → Rest → Type 0
 GoodRest g indices (Over at) = Unit {0}
 GoodRest g indices (Next at line form rest) =
     (within : Bool) × Good g (record { line = line; form = form; bound = indices; within = within }) × AllGood g (inner_visits indices within form) × GoodRest g indices rest
-GoodRest g indices (Turn at head index last body rest) =
-    (outer : List ℕ) × (within : Bool) × AllAmong (index ∷ outer) indices × (contains outer index ≡ false) × IsTrue (has_index g.program index) × EndsIn (span_of g.spaces index) last
-    × AllGood g (visits (index ∷ outer) within body) × GoodRest g outer rest
+GoodRest g indices (Turn loop last rest) =
+    (outer : List ℕ) × (within : Bool) × AllAmong (loop.index ∷ outer) indices × (contains outer loop.index ≡ false) × IsTrue (has_index g.program loop.index) × EndsIn (span_of g.spaces loop.index) last
+    × AllGood g (visits (loop.index ∷ outer) within loop.body) × GoodRest g outer rest
 GoodRest g indices (Join at rest) = GoodRest g indices rest
 GoodRest g indices (Back at values rest) = (inner : List ℕ) × (length values ≡ length g.program.indices) × InRange g inner values × GoodRest g inner rest
-GoodRest g indices (Within at head over wheres body number rest) =
-    (outer : List ℕ) × AllAmong outer indices × (share_any over outer ≡ false) × (has_twice over ≡ false) × IsTrue (list_all (has_index g.program) over) × AllGood g (visits (over ++ outer) true body) × GoodRest g outer rest
+GoodRest g indices (Within pardo number rest) =
+    (outer : List ℕ) × AllAmong outer indices × (share_any pardo.indices outer ≡ false) × (has_twice pardo.indices ≡ false) × IsTrue (list_all (has_index g.program) pardo.indices) × AllGood g (visits (pardo.indices ++ outer) true pardo.body) × GoodRest g outer rest
 
 -- work in a whole state, its indices bound within their ranges
 pub record GoodWork (g : Setting) (rest : Rest) (s : State) : Type 0 where
@@ -121,56 +123,56 @@ next-in (Segments kind first count) v last ends below in-span = let low = in-spa
 next-in (Pieces super) v last ends below in-span = tt
 
 -- a loop entered, at its first number or past it
-pub entered-good : (g : Setting) (at head index first count : ℕ) (body : Block) (rest : Rest) (s : State) (indices : List ℕ) (within : Bool) → InRange g indices s.own.values → GoodRest g indices rest → IsWhole g s
-    → contains indices index ≡ false → IsTrue (has_index g.program index) → AllGood g (visits (index ∷ indices) within body)
-    → ((n : ℕ) → count ≡ suc n → InSpan (span_of g.spaces index) first × EndsIn (span_of g.spaces index) (first + n)) → GoodAt g (entered at head index first count body rest s)
-entered-good g at head index first zero body rest s indices within in-range good whole out has all numbers = record {
+pub entered-good : (g : Setting) (loop : LoopAt) (first count : ℕ) (rest : Rest) (s : State) (indices : List ℕ) (within : Bool) → InRange g indices s.own.values → GoodRest g indices rest → IsWhole g s
+    → contains indices loop.index ≡ false → IsTrue (has_index g.program loop.index) → AllGood g (visits (loop.index ∷ indices) within loop.body)
+    → ((n : ℕ) → count ≡ suc n → InSpan (span_of g.spaces loop.index) first × EndsIn (span_of g.spaces loop.index) (first + n)) → GoodAt g (led s (entered loop first count rest s.own))
+entered-good g loop first zero rest s indices within in-range good whole out has all numbers = record {
   indices = indices;
-  in_range = others-stay g indices s.own.values index 0 out in-range;
+  in_range = others-stay g indices s.own.values loop.index 0 out in-range;
   good = good;
-  whole = values-whole g s (slice_set s.own.values index 0) (length-set s.own.values index 0 ∙ whole.own.values) whole;
+  whole = values-whole g s (slice_set s.own.values loop.index 0) (length-set s.own.values loop.index 0 ∙ whole.own.values) whole;
 }
-entered-good g at head index first (suc n) body rest s indices within in-range good whole out has all numbers =
+entered-good g loop first (suc n) rest s indices within in-range good whole out has all numbers =
     let ends = numbers n refl in
     record {
-      indices = index ∷ indices;
-      in_range = one-more-bound g indices s.own.values index first out (place-there g s index has whole) ends.0 in-range;
-      good = good-pushed g (index ∷ indices) within (head + 1) body (Turn at head index (first + n) body rest) all (indices, within, (λ i is. is), out, has, ends.1, all, good);
-      whole = values-whole g s (slice_set s.own.values index first) (length-set s.own.values index first ∙ whole.own.values) whole;
+      indices = loop.index ∷ indices;
+      in_range = one-more-bound g indices s.own.values loop.index first out (place-there g s loop.index has whole) ends.0 in-range;
+      good = good-pushed g (loop.index ∷ indices) within (loop.head + 1) loop.body (Turn loop (first + n) rest) all (indices, within, (λ i is. is), out, has, ends.1, all, good);
+      whole = values-whole g s (slice_set s.own.values loop.index first) (length-set s.own.values loop.index first ∙ whole.own.values) whole;
     }
 
 -- the end of a loop's body
-pub turned-good : (g : Setting) (more : Bool) (at head index last : ℕ) (body : Block) (rest : Rest) (s : State) (indices outer : List ℕ) (within : Bool) → nat_lt (value_of s.own index) last ≡ more → InRange g indices s.own.values → IsWhole g s
-    → AllAmong (index ∷ outer) indices → contains outer index ≡ false → IsTrue (has_index g.program index) → EndsIn (span_of g.spaces index) last → AllGood g (visits (index ∷ outer) within body) → GoodRest g outer rest
-    → GoodAt g (turned more at head index last body rest s)
-turned-good g true at head index last body rest s indices outer within is in-range whole among out has ends all good =
-    let v = value_of s.own index in
+pub turned-good : (g : Setting) (more : Bool) (loop : LoopAt) (last : ℕ) (rest : Rest) (s : State) (indices outer : List ℕ) (within : Bool) → nat_lt (value_of s.own loop.index) last ≡ more → InRange g indices s.own.values → IsWhole g s
+    → AllAmong (loop.index ∷ outer) indices → contains outer loop.index ≡ false → IsTrue (has_index g.program loop.index) → EndsIn (span_of g.spaces loop.index) last → AllGood g (visits (loop.index ∷ outer) within loop.body) → GoodRest g outer rest
+    → GoodAt g (led s (turned more loop last rest s.own))
+turned-good g true loop last rest s indices outer within is in-range whole among out has ends all good =
+    let v = value_of s.own loop.index in
     let less : v < last = grind (arith, nat_tests) in
-    let here : InSpan (span_of g.spaces index) v = in-range index (among index (or-left (index == index) (contains outer index) (eq-eqb index index refl))) in
-    let inner = fewer g outer indices s.own.values (λ i has-i. among i (or-right (index == i) (contains outer i) has-i)) in-range in
+    let here : InSpan (span_of g.spaces loop.index) v = in-range loop.index (among loop.index (or-left (loop.index == loop.index) (contains outer loop.index) (eq-eqb loop.index loop.index refl))) in
+    let inner = fewer g outer indices s.own.values (λ i has-i. among i (or-right (loop.index == i) (contains outer i) has-i)) in-range in
     record {
-      indices = index ∷ outer;
-      in_range = one-more-bound g outer s.own.values index (v + 1) out (place-there g s index has whole) (next-in (span_of g.spaces index) v last ends less here) inner;
-      good = good-pushed g (index ∷ outer) within (head + 1) body (Turn at head index last body rest) all (outer, within, (λ i is. is), out, has, ends, all, good);
-      whole = values-whole g s (slice_set s.own.values index (v + 1)) (length-set s.own.values index (v + 1) ∙ whole.own.values) whole;
+      indices = loop.index ∷ outer;
+      in_range = one-more-bound g outer s.own.values loop.index (v + 1) out (place-there g s loop.index has whole) (next-in (span_of g.spaces loop.index) v last ends less here) inner;
+      good = good-pushed g (loop.index ∷ outer) within (loop.head + 1) loop.body (Turn loop last rest) all (outer, within, (λ i is. is), out, has, ends, all, good);
+      whole = values-whole g s (slice_set s.own.values loop.index (v + 1)) (length-set s.own.values loop.index (v + 1) ∙ whole.own.values) whole;
     }
-turned-good g false at head index last body rest s indices outer within is in-range whole among out has ends all good =
-    let inner = fewer g outer indices s.own.values (λ i has-i. among i (or-right (index == i) (contains outer i) has-i)) in-range in
+turned-good g false loop last rest s indices outer within is in-range whole among out has ends all good =
+    let inner = fewer g outer indices s.own.values (λ i has-i. among i (or-right (loop.index == i) (contains outer i) has-i)) in-range in
     record {
       indices = outer;
-      in_range = others-stay g outer s.own.values index 0 out inner;
+      in_range = others-stay g outer s.own.values loop.index 0 out inner;
       good = good;
-      whole = values-whole g s (slice_set s.own.values index 0) (length-set s.own.values index 0 ∙ whole.own.values) whole;
+      whole = values-whole g s (slice_set s.own.values loop.index 0) (length-set s.own.values loop.index 0 ∙ whole.own.values) whole;
     }
 
 -- a branch
-pub branched-good : (g : Setting) (line : ℕ) (answer : Answer Bool) (met unmet : Rest) (s : State) (indices : List ℕ) → InRange g indices s.own.values → IsWhole g s → GoodRest g indices met → GoodRest g indices unmet → GoodAt g (branched line answer met unmet s)
+pub branched-good : (g : Setting) (line : ℕ) (answer : Answer Bool) (met unmet : Rest) (s : State) (indices : List ℕ) → InRange g indices s.own.values → IsWhole g s → GoodRest g indices met → GoodRest g indices unmet → GoodAt g (led s (branched line answer met unmet s.own))
 branched-good g line (Ok true) met unmet s indices in-range whole a b = record { indices = indices; in_range = in-range; good = a; whole = whole }
 branched-good g line (Ok false) met unmet s indices in-range whole a b = record { indices = indices; in_range = in-range; good = b; whole = whole }
 branched-good g line (Err kind) met unmet s indices in-range whole a b = whole
 
 -- a call
-pub called-good : (g : Setting) (more : Bool) (procedure : ℕ) (rest : Rest) (s : State) (indices : List ℕ) → IsSound g → InRange g indices s.own.values → IsWhole g s → GoodRest g indices rest → GoodAt g (called g more procedure rest s)
+pub called-good : (g : Setting) (more : Bool) (procedure : ℕ) (rest : Rest) (s : State) (indices : List ℕ) → IsSound g → InRange g indices s.own.values → IsWhole g s → GoodRest g indices rest → GoodAt g (led s (called g more procedure rest s.own))
 called-good g true procedure rest s indices sound in-range whole good = record {
   indices = [];
   in_range = λ i has. absurd (never has);

@@ -2,7 +2,6 @@
 use Rattle.std.proofs.Common.{◌≡◌, ℕ, zero, suc, ◌+◌, ◌<◌, List, [], ◌∷◌, ◌++◌, map, length, Bool, true, false, ◌==◌, ◌&&◌, ◌||◌, not, nat_lt, refl, sym, ap, ◌∙◌, subst, arith, IsTrue}
 use Rattle.std.proofs.lemmas.Bool.Decides.{nat_tests}
 use Rattle.std.specs.List.{list_all}
-use Rattle.sial_syntax.specs.declared.condition.Cond.{Cond}
 use Rattle.sial_syntax.specs.Agreeing.{contains, share_any, has_twice, is_sub_of}
 use Rattle.sial_syntax.specs.Boxes.{volume, tuple_at}
 use Rattle.sial_syntax.specs.Limits.{most_pardo}
@@ -10,16 +9,18 @@ use Rattle.sial_syntax.specs.Numbering.{sizes, stop_at}
 use Rattle.sial_syntax.specs.Parts.{indices_bound}
 use Rattle.sial_syntax.specs.Proper.{has_index, has_length, proper_body, proper_cond}
 use Rattle.sial_syntax.specs.Spaces.{Span, Segments, Pieces, span_of, first_of, count_of, box_of, onto_firsts, pieces_of}
-use Rattle.sial_syntax.specs.Tree.{Block, Plain, Do, DoIn, Pardo, If, IfElse, Call, Assign, Get, Request, Put, Prepare, Create, Delete, Allocate, Deallocate, Collective, SipBarrier, ServerBarrier, Print, PrintScalar, Integrals}
+use Rattle.sial_syntax.specs.Tree.{Plain, Do, DoIn, Pardo, If, IfElse, Call, Assign, Get, Request, Put, Prepare, Create, Delete, Allocate, Deallocate, Collective, SipBarrier, ServerBarrier, Print, PrintScalar, Integrals}
 use Rattle.sial_syntax.specs.Visits.{visits, inner_visits}
 use Rattle.sial_syntax.proofs.RankLemmas.{numbers-within}
 use Rattle.sial_meaning.specs.Meaning.{meaning, call_depth, condition, on_own, taken_up, all_met}
-use Rattle.sial_meaning.specs.Own.{value_of, unset}
-use Rattle.sial_meaning.specs.Rest.{Rest, Work, Over, Next, Turn, Join, Back, Within, Stepped, Moved, Halted, Ended, depth, push, begun, went_within, done, next_step, step_from, go_on, steps, start_work}
+use Rattle.sial_meaning.specs.Own.{Own, value_of, unset}
+use Rattle.sial_meaning.specs.Control.{begun, went_within, loop_at}
+use Rattle.sial_meaning.specs.Rest.{PardoAt, Rest, Over, Next, Turn, Join, Back, Within, depth, push}
+use Rattle.sial_meaning.specs.Step.{Work, Stepped, Moved, Halted, Ended, led, done, step_from, go_on, steps, start_work}
 use Rattle.sial_meaning.specs.Setting.{Setting}
 use Rattle.sial_meaning.specs.Sight.{is_pieces_of}
 use Rattle.sial_meaning.specs.Sound.{IsSound}
-use Rattle.sial_meaning.specs.State.{State, start_state}
+use Rattle.sial_meaning.specs.State.{State, start_state, with_own}
 use Rattle.sial_meaning.specs.Statement.{Outcome, Went, Stopped, Reading, statement}
 use Rattle.sial_meaning.specs.WholeStates.{IsWhole, StandsAt, ReachedStatesAreWhole, state_of, OutcomesAreReached}
 use Rattle.sial_meaning.proofs.GrantedLemmas.{cuts-as-said}
@@ -37,22 +38,22 @@ use Rattle.sial_meaning.proofs.WholeRest.{AllAmong, EndsIn, GoodRest, GoodWork, 
 use Rattle.sial_meaning.proofs.WholeBound.{unset-whole, bound-whole, bound-others, tuple-bound}
 
 -- a number of a box taken up, where its `where` lines hold or not
-begun-good : (g : Setting) (met : Bool) (at head : ℕ) (over : List ℕ) (wheres : List Cond) (body : Block) (number : ℕ) (rest : Rest) (s : State) (outer : List ℕ) → InRange g (over ++ outer) s.own.values → IsWhole g s
-    → share_any over outer ≡ false → has_twice over ≡ false → IsTrue (list_all (has_index g.program) over) → AllGood g (visits (over ++ outer) true body) → GoodRest g outer rest → GoodAt g (begun met at head over wheres body number rest s)
-begun-good g true at head over wheres body number rest s outer in-range whole out once has all good = record {
-  indices = over ++ outer;
+begun-good : (g : Setting) (met : Bool) (pardo : PardoAt) (number : ℕ) (rest : Rest) (s : State) (own : Own) (outer : List ℕ) → InRange g (pardo.indices ++ outer) own.values → IsWhole g (with_own s own)
+    → share_any pardo.indices outer ≡ false → has_twice pardo.indices ≡ false → IsTrue (list_all (has_index g.program) pardo.indices) → AllGood g (visits (pardo.indices ++ outer) true pardo.body) → GoodRest g outer rest → GoodAt g (led s (begun met pardo number rest own))
+begun-good g true pardo number rest s own outer in-range whole out once has all good = record {
+  indices = pardo.indices ++ outer;
   in_range = in-range;
-  good = good-pushed g (over ++ outer) true (head + 1 + length wheres) body (Within at head over wheres body (number + 1) rest) all (outer, among-behind over outer, out, once, has, all, good);
+  good = good-pushed g (pardo.indices ++ outer) true (pardo.head + 1 + length pardo.wheres) pardo.body (Within pardo (number + 1) rest) all (outer, among-behind pardo.indices outer, out, once, has, all, good);
   whole = whole;
 }
   where
     among-behind : (xs ys : List ℕ) → AllAmong ys (xs ++ ys)
     among-behind [] ys i has = has
     among-behind (x ∷ xs) ys i has = or-right (x == i) (contains (xs ++ ys) i) (among-behind xs ys i has)
-begun-good g false at head over wheres body number rest s outer in-range whole out once has all good = record {
-  indices = over ++ outer;
+begun-good g false pardo number rest s own outer in-range whole out once has all good = record {
+  indices = pardo.indices ++ outer;
   in_range = in-range;
-  good = (outer, among-behind over outer, out, once, has, all, good);
+  good = (outer, among-behind pardo.indices outer, out, once, has, all, good);
   whole = whole;
 }
   where
@@ -61,21 +62,21 @@ begun-good g false at head over wheres body number rest s outer in-range whole o
     among-behind (x ∷ xs) ys i has = or-right (x == i) (contains (xs ++ ys) i) (among-behind xs ys i has)
 
 -- a pardo in progress
-within-good : (g : Setting) (more : Bool) (at head : ℕ) (over : List ℕ) (wheres : List Cond) (body : Block) (number : ℕ) (rest : Rest) (s : State) (outer : List ℕ) → nat_lt number (volume (box_of g.spaces over)) ≡ more → InRange g outer s.own.values → IsWhole g s
-    → share_any over outer ≡ false → has_twice over ≡ false → IsTrue (list_all (has_index g.program) over) → AllGood g (visits (over ++ outer) true body) → GoodRest g outer rest → GoodAt g (went_within g more at head over wheres body number rest s)
-within-good g true at head over wheres body number rest s outer is in-range whole out once has all good =
-    let below : number < volume (box_of g.spaces over) = grind (arith, nat_tests) in
-    let numbers = onto_firsts g.spaces over (tuple_at (box_of g.spaces over) number) in
+within-good : (g : Setting) (more : Bool) (pardo : PardoAt) (number : ℕ) (rest : Rest) (s : State) (outer : List ℕ) → nat_lt number (volume (box_of g.spaces pardo.indices)) ≡ more → InRange g outer s.own.values → IsWhole g s
+    → share_any pardo.indices outer ≡ false → has_twice pardo.indices ≡ false → IsTrue (list_all (has_index g.program) pardo.indices) → AllGood g (visits (pardo.indices ++ outer) true pardo.body) → GoodRest g outer rest → GoodAt g (led s (went_within g more pardo number rest s.own))
+within-good g true pardo number rest s outer is in-range whole out once has all good =
+    let below : number < volume (box_of g.spaces pardo.indices) = grind (arith, nat_tests) in
+    let numbers = onto_firsts g.spaces pardo.indices (tuple_at (box_of g.spaces pardo.indices) number) in
     let u : State = on_own (unset g) s in
-    let t : State = on_own (taken_up g over (tuple_at (box_of g.spaces over) number)) s in
-    begun-good g (all_met t.own wheres) at head over wheres body number rest t outer
-    (tuple-bound g over outer numbers u out once has (numbers-within g.spaces over number below) (unset-whole g s whole) in-range)
-    (bound-whole g over numbers u (unset-whole g s whole)) out once has all good
-within-good g false at head over wheres body number rest s outer is in-range whole out once has all good = record {
+    let t : State = on_own (taken_up g pardo.indices (tuple_at (box_of g.spaces pardo.indices) number)) s in
+    begun-good g (all_met t.own pardo.wheres) pardo number rest s t.own outer
+    (tuple-bound g pardo.indices outer numbers u out once has (numbers-within g.spaces pardo.indices number below) (unset-whole g s whole) in-range)
+    (bound-whole g pardo.indices numbers u (unset-whole g s whole)) out once has all good
+within-good g false pardo number rest s outer is in-range whole out once has all good = record {
   indices = outer;
-  in_range = bound-others g outer over (map (λ i. 0) over) (unset g s.own) out in-range;
+  in_range = bound-others g outer pardo.indices (map (λ i. 0) pardo.indices) (unset g s.own) out in-range;
   good = good;
-  whole = bound-whole g over (map (λ i. 0) over) (on_own (unset g) s) (unset-whole g s whole);
+  whole = bound-whole g pardo.indices (map (λ i. 0) pardo.indices) (on_own (unset g) s) (unset-whole g s whole);
 }
 
 -- pieces have no range to be asked for
@@ -101,16 +102,16 @@ loop-out g line index form indices within good is =
 
 -- a statement at the head
 next-good : (reading : Reading) (g : Setting) (at line : ℕ) (form : Plain) (rest : Rest) (s : State) (indices : List ℕ) (within : Bool) → IsSound g → InRange g indices s.own.values → IsWhole g s
-    → Good g (record { line = line; form = form; bound = indices; within = within }) → AllGood g (inner_visits indices within form) → GoodRest g indices rest → GoodAt g (next_step reading g at line form rest s)
+    → Good g (record { line = line; form = form; bound = indices; within = within }) → AllGood g (inner_visits indices within form) → GoodRest g indices rest → GoodAt g (step_from reading g (Next at line form rest) s)
 next-good reading g at line (Do index body) rest s indices within sound in-range whole good inner rest-good =
-    entered-good g (at + 1 + sizes body) at index (first_of g.spaces index) (count_of g.spaces index) body rest s indices within in-range rest-good whole (loop-out g line index (Do index body) indices within good refl)
+    entered-good g (loop_at at index body) (first_of g.spaces index) (count_of g.spaces index) rest s indices within in-range rest-good whole (loop-out g line index (Do index body) indices within good refl)
     (both (has_index g.program index) (proper_body g.program body) good.proper).0 inner
     (λ n is. (first-in (span_of g.spaces index) n is, last-in (span_of g.spaces index) n is))
 next-good reading g at line (DoIn sub index body) rest s indices within sound in-range whole good inner rest-good =
     let loops = (neither (not (is_sub_of g.program sub index) || false) ((false || false) || (false || false)) good.kind).0 in
     let cut : is_sub_of g.program sub index ≡ true = holds-so (is_sub_of g.program sub index) (neither (not (is_sub_of g.program sub index)) false loops).0 in
     let pieces : is_pieces_of (span_of g.spaces sub) index ≡ true = cuts-as-said g sound sub index ∙ cut in
-    entered-good g (at + 1 + sizes body) at sub 1 (pieces_of g.spaces sub (value_of s.own index)) body rest s indices within in-range rest-good whole (loop-out g line sub (DoIn sub index body) indices within good refl)
+    entered-good g (loop_at at sub body) 1 (pieces_of g.spaces sub (value_of s.own index)) rest s indices within in-range rest-good whole (loop-out g line sub (DoIn sub index body) indices within good refl)
     (both (has_index g.program sub) (has_index g.program index && proper_body g.program body) good.proper).0 inner
     (λ n is. pieces-any (span_of g.spaces sub) index 1 (1 + n) pieces)
 next-good reading g at line (Pardo over wheres body) rest s indices within sound in-range whole good inner rest-good =
@@ -152,16 +153,16 @@ step-good reading g sound (Over at) s work = tt
 step-good reading g sound (Next at line form rest) s work =
     let good = work.good in
     next-good reading g at line form rest s work.indices good.0 sound work.in_range work.whole good.1 good.2 good.3
-step-good reading g sound (Turn at head index last body rest) s work =
+step-good reading g sound (Turn loop last rest) s work =
     let good = work.good in
-    turned-good g (nat_lt (value_of s.own index) last) at head index last body rest s work.indices good.0 good.1 refl work.in_range work.whole good.2 good.3 good.4 good.5 good.6 good.7
+    turned-good g (nat_lt (value_of s.own loop.index) last) loop last rest s work.indices good.0 good.1 refl work.in_range work.whole good.2 good.3 good.4 good.5 good.6 good.7
 step-good reading g sound (Join at rest) s work = record { indices = work.indices; in_range = work.in_range; good = work.good; whole = work.whole }
 step-good reading g sound (Back at values rest) s work =
     let good = work.good in
     record { indices = good.0; in_range = good.2; good = good.3; whole = values-whole g s values good.1 work.whole }
-step-good reading g sound (Within at head over wheres body number rest) s work =
+step-good reading g sound (Within pardo number rest) s work =
     let good = work.good in
-    within-good g (nat_lt number (volume (box_of g.spaces over))) at head over wheres body number rest s good.0 refl (fewer g good.0 work.indices s.own.values good.1 work.in_range) work.whole good.2 good.3 good.4 good.5 good.6
+    within-good g (nat_lt number (volume (box_of g.spaces pardo.indices))) pardo number rest s good.0 refl (fewer g good.0 work.indices s.own.values good.1 work.in_range) work.whole good.2 good.3 good.4 good.5 good.6
 
 -- what follows a step
 go-good : (g : Setting) (next : Work → Stepped) → ((w : Work) → GoodWork g w.rest w.state → GoodAt g (next w)) → (t : Stepped) → GoodAt g t → GoodAt g (go_on next t)

@@ -7,7 +7,8 @@ use Rattle.sial_syntax.specs.Tree.{Block, Pardo}
 use Rattle.sial_meaning.specs.declared.trap.Trap.{Trap}
 use Rattle.sial_meaning.specs.Meaning.{block_meaning, calls, call_depth, iteration, on_own, taken_up, left}
 use Rattle.sial_meaning.specs.Own.{Own, unset}
-use Rattle.sial_meaning.specs.Rest.{Rest, Next, Work, Stepped, Moved, Halted, Ended, start_work, step}
+use Rattle.sial_meaning.specs.Rest.{Rest, Next}
+use Rattle.sial_meaning.specs.Step.{Work, Stepped, Moved, Halted, Ended, start_work, step}
 use Rattle.sial_meaning.specs.Setting.{Setting}
 use Rattle.sial_meaning.specs.State.{State, with_own}
 use Rattle.sial_meaning.specs.Statement.{Outcome, Went, Stopped, Copied}

@@ -8,7 +8,8 @@ use Rattle.sial_meaning.specs.Access.{Touch}
 use Rattle.sial_meaning.specs.Course.{course}
 use Rattle.sial_meaning.specs.Meaning.{block_meaning, calls, iteration, taken_up, by_epochs}
 use Rattle.sial_meaning.specs.Own.{unset}
-use Rattle.sial_meaning.specs.Rest.{Rest, Over, Next, Work, Moved, Halted, start_work, step, steps}
+use Rattle.sial_meaning.specs.Rest.{Rest, Over, Next}
+use Rattle.sial_meaning.specs.Step.{Work, Moved, Halted, start_work, step, steps}
 use Rattle.sial_meaning.specs.Setting.{Setting}
 use Rattle.sial_meaning.specs.Sound.{IsGrantedSetting}
 use Rattle.sial_meaning.specs.State.{State}

@@ -5,7 +5,7 @@ use Rattle.sial_syntax.specs.Proper.{IsProper}
 use Rattle.sial_meaning.specs.Accepted.{log_of, refusal_of, first_refusal}
 use Rattle.sial_meaning.specs.Access.{Touch, clashes, first_clash}
 use Rattle.sial_meaning.specs.Meaning.{sequential, by_epochs}
-use Rattle.sial_meaning.specs.Rest.{Stepped, Moved, Halted, Ended, steps, start_work}
+use Rattle.sial_meaning.specs.Step.{Stepped, Moved, Halted, Ended, steps, start_work}
 use Rattle.sial_meaning.specs.Setting.{Setting}
 use Rattle.sial_meaning.specs.Statement.{Present, Copied}
 

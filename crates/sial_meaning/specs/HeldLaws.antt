@@ -7,7 +7,8 @@ use Rattle.sial_syntax.specs.declared.operand.Target.TheVariants as target
 use Rattle.sial_syntax.specs.Tree.{Plain, Assign}
 use Rattle.sial_meaning.specs.LocalStep.{side_read, needs_old, old_words, words_of}
 use Rattle.sial_meaning.specs.Own.{sight}
-use Rattle.sial_meaning.specs.Rest.{Rest, Next, Moved, steps, start_work}
+use Rattle.sial_meaning.specs.Rest.{Rest, Next}
+use Rattle.sial_meaning.specs.Step.{Moved, steps, start_work}
 use Rattle.sial_meaning.specs.Right.{Side, assigned, is_insertion}
 use Rattle.sial_meaning.specs.Setting.{Setting, array_kind}
 use Rattle.sial_meaning.specs.Sound.{IsSound}

@@ -4,7 +4,8 @@ use Rattle.sial_syntax.specs.Numbering.{stop_at}
 use Rattle.sial_syntax.specs.Proper.{IsProper}
 use Rattle.sial_syntax.specs.SideRules.{IsGranted}
 use Rattle.sial_meaning.specs.Meaning.{meaning}
-use Rattle.sial_meaning.specs.Rest.{Over, done, steps, start_work}
+use Rattle.sial_meaning.specs.Rest.{Over}
+use Rattle.sial_meaning.specs.Step.{done, steps, start_work}
 use Rattle.sial_meaning.specs.Setting.{Setting}
 use Rattle.sial_meaning.specs.Statement.{Reading}
 

@@ -10,6 +10,10 @@ pub mod LocalStep
 pub mod Statement
 pub mod Meaning
 pub mod Rest
+pub mod Control
+pub mod Next
+pub mod Step
+pub mod NextLaws
 pub mod Accepted
 pub mod Costs
 pub mod Course

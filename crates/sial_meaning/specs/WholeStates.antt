@@ -8,7 +8,7 @@ use Rattle.sial_syntax.specs.Boxes.{volume}
 use Rattle.sial_syntax.specs.Spaces.{blocks_together}
 use Rattle.sial_meaning.specs.Meaning.{meaning}
 use Rattle.sial_meaning.specs.Own.{Own, Held, for_each, static_block, temp_of, local_block, is_created}
-use Rattle.sial_meaning.specs.Rest.{Stepped, Moved, Halted, Ended, steps, start_work}
+use Rattle.sial_meaning.specs.Step.{Stepped, Moved, Halted, Ended, steps, start_work}
 use Rattle.sial_meaning.specs.Setting.{Setting, array_kind, dims_of, block_count, block_words, first_of_class}
 use Rattle.sial_meaning.specs.Sight.{lengths}
 use Rattle.sial_meaning.specs.Sound.{IsSound}

@@ -1,9 +1,11 @@
 //! Laws of the meaning that proofs above cite, with nothing to run.
 
+mod control;
 mod course;
 mod epochs;
 mod rest;
 
+pub use control::statements_do_what_they_ask_for;
 pub use course::{course_follows_the_fold, pardos_keep_the_control};
 pub use epochs::epochs_agree_up_to_the_first_refusal;
 pub use rest::steps_reach_the_fold;
