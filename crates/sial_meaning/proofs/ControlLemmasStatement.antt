@@ -1,5 +1,5 @@
 -- A statement that may stand within a pardo keeps the control.
-use Rattle.std.proofs.Common.{◌≡◌, ℕ, List, [], ◌∷◌, ◌++◌, Bool, true, false, not, ◌||◌, if◌then◌else◌, Option, Some, None, Ok, Err, refl, ap, ◌∙◌, inl, append-nil}
+use Rattle.std.proofs.Common.{◌≡◌, ℕ, List, [], ◌∷◌, ◌++◌, Bool, true, false, not, ◌||◌, if◌then◌else◌, Option, Some, None, Ok, Err, refl, ap, ◌∙◌, inl, append-nil, IsTrue}
 use Rattle.std.specs.List.{list_any}
 use Rattle.std.proofs.lemmas.Bool.{or_parts}
 use Rattle.sial_syntax.proofs.AmongLemmas.{Among}
@@ -15,6 +15,8 @@ use Rattle.sial_syntax.specs.declared.operand.Op.{Op}
 use Rattle.sial_syntax.specs.declared.operand.Target.TheVariants as target
 use Rattle.sial_syntax.specs.Agreeing.{has_kind}
 use Rattle.sial_syntax.specs.Parts.{scalars_written, arrays_named, slotted_array}
+use Rattle.sial_syntax.specs.Proper.{proper_form}
+use Rattle.sial_syntax.specs.Sides.{is_accumulation}
 use Rattle.sial_syntax.specs.Spaces.{same_kind}
 use Rattle.sial_syntax.specs.SideRules.{is_pardo, is_sync, is_print, arrays_written}
 use Rattle.sial_syntax.specs.Tree.{Plain, Assign, Get, Request, Put, Prepare, Create, Delete, Allocate, Deallocate, Collective, SipBarrier, ServerBarrier, Print, PrintScalar, Integrals}
@@ -38,6 +40,8 @@ pub record Calm (g : Setting) (form : Plain) : Type 0 where
   pub scalars : (scalar : ℕ) → Among scalar (scalars_written form) → scalar_class g scalar ≡ Replicated → ⊥
   pub locals : (array : ℕ) → Among array (arrays_named form) → array_kind g array ≡ Local → side_of g array ≡ Inner
   pub slots : (array : ℕ) → Among array (slotted_array form) → array_kind g array ≡ Local
+  pub there : IsTrue (proper_form g.program form)
+  pub partials : (scalar : ℕ) → Among scalar (scalars_written form) → scalar_class g scalar ≡ Partial → is_accumulation form ≡ true
 
 -- nothing is changed
 pub epochs_same : (s : State) → KeepsEpochs s s

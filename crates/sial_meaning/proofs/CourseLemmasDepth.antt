@@ -32,7 +32,7 @@ same_chosen line (Ok false) met unmet met1 unmet1 s e f = f
 same_chosen line (Err kind) met unmet met1 unmet1 s e f = refl
 
 -- a body that may be left out
-same_unless : (met : Bool) (body other : State → Outcome) (s : State) → body s ≡ other s → unless_left_out met body s ≡ unless_left_out met other s
+pub same_unless : (met : Bool) (body other : State → Outcome) (s : State) → body s ≡ other s → unless_left_out met body s ≡ unless_left_out met other s
 same_unless true body other s e = e
 same_unless false body other s e = refl
 

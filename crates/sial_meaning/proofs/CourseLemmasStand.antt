@@ -26,12 +26,13 @@ use Rattle.sial_syntax.specs.Tree.{Tree, Procedure, Block, End, Then, Plain, Do,
 use Rattle.sial_syntax.specs.Visits.{Visit, visits, inner_visits, body_visits, all_visits}
 use Rattle.sial_meaning.specs.Sound.{IsGrantedSetting}
 use Rattle.sial_meaning.specs.Setting.{Setting, array_kind, no_array, procedure_body}
+use Rattle.sial_meaning.proofs.AccumulationLemmas.{accumulates_so}
 use Rattle.sial_meaning.proofs.ControlLemmasStatement.{Calm}
 use Rattle.sial_meaning.proofs.RestLemmasRules.{granted_kinds}
 use Rattle.sial_meaning.proofs.PairLemmas.{second-fails}
 
 -- the scalars that a proper statement writes are there
-written_there : (p : Tree) (form : Plain) → IsTrue (proper_form p form) → (scalar : ℕ) → Among scalar (scalars_written form) → scalar < length p.scalars
+pub written_there : (p : Tree) (form : Plain) → IsTrue (proper_form p form) → (scalar : ℕ) → Among scalar (scalars_written form) → scalar < length p.scalars
 written_there p (Assign (target.Scalar s) op right) there scalar m =
     ⊎_elim
     (λ same. subst (λ (x : ℕ). x < length p.scalars) (sym same) (ltb-true s (length p.scalars) (and_parts (has_scalar p s) (proper_right p right) there).0))
@@ -134,6 +135,17 @@ module _ (g : Setting) (set : IsGrantedSetting g) where
             ap (λ ss. slice_index_or ss array Unused) set.sides
             ∙ named_side g.program (placed s v) array m within named (local_there g.program.arrays array local) (ap (λ k. same_kind k Local) local);
         slots = slots_local g v.form (no_wrong_array g.program v (granted_kinds g.program set.granted v all));
+        there = there;
+        partials = λ scalar written same.
+            accumulates_so
+            g.program
+            (placed s v)
+            scalar
+            m
+            within
+            written
+            (written_there g.program v.form there scalar written)
+            (sym (ap (λ cs. slice_index_or cs scalar Replicated) set.scalars) ∙ same);
       }
 
   -- a statement of a procedure is among all

@@ -4,6 +4,13 @@ pub mod EpochLemmasFold
 pub mod EpochLemmasStatement
 pub mod EpochLemmasSteps
 pub mod NextLemmas
+pub mod DeedLemmas
+pub mod DeedStatement
+pub mod DeedFold
+pub mod DeedTraps
+pub mod CourseDeedLemmas
+pub mod CourseLogLemmas
+pub mod AccumulationLemmas
 pub mod RestLemmas
 pub mod RestLemmasBound
 pub mod RestLemmasFold

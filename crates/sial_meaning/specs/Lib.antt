@@ -16,7 +16,11 @@ pub mod Step
 pub mod NextLaws
 pub mod Accepted
 pub mod Costs
+pub mod Deeds
+pub mod Ran
 pub mod Course
+pub mod CourseDeeds
+pub mod DeedLaws
 pub mod Laws
 pub mod EpochLaws
 pub mod Runs
