@@ -10,6 +10,7 @@ pub mod DeedFold
 pub mod DeedTraps
 pub mod CourseDeedLemmas
 pub mod CourseLogLemmas
+pub mod DeedSumLemmas
 pub mod AccumulationLemmas
 pub mod RestLemmas
 pub mod RestLemmasBound

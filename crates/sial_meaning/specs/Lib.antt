@@ -21,6 +21,7 @@ pub mod Ran
 pub mod Course
 pub mod CourseDeeds
 pub mod DeedLaws
+pub mod DeedSums
 pub mod Laws
 pub mod EpochLaws
 pub mod Runs

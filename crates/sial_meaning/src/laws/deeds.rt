@@ -1,10 +1,21 @@
 //! What iterations do to the world outside: their deeds.
 
 ghost use Rattle.sial_meaning.specs.DeedLaws.{CoursesAreTheirDeeds, IterationsAreTheirDeeds, PardosAreTheirDeeds};
+ghost use Rattle.sial_meaning.specs.DeedSums.{AddsComeToTheSum, MaxesByCounts, MaxesComeToTheGreatest, OneStoreIsItsValue, OrderDoesNotMatter, OtherBlocksStay};
 
 /// The fold over an iteration, a pardo of the course, and the log of each point are the deeds applied in order.
 pub fn iterations_are_their_deeds()
     ensures iterations { IterationsAreTheirDeeds }
     ensures pardos { PardosAreTheirDeeds }
     ensures courses { CoursesAreTheirDeeds }
+{}
+
+/// What deeds of one kind come to: adds their sum, maxes the greatest, one store its value, in whatever order.
+pub fn deeds_of_one_kind()
+    ensures adds { AddsComeToTheSum }
+    ensures maxes { MaxesComeToTheGreatest }
+    ensures counts { MaxesByCounts }
+    ensures store { OneStoreIsItsValue }
+    ensures none { OtherBlocksStay }
+    ensures order { OrderDoesNotMatter }
 {}
