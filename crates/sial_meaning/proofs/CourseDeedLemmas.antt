@@ -6,8 +6,9 @@ use Rattle.sial_syntax.specs.Boxes.{numbers_from, volume, tuples, tuple_at}
 use Rattle.sial_syntax.specs.Spaces.{box_of}
 use Rattle.sial_syntax.specs.Tree.{Block, Pardo}
 use Rattle.sial_meaning.specs.declared.trap.Trap.{Trap}
+use Rattle.sial_meaning.specs.Control.{depth_left}
 use Rattle.sial_meaning.specs.Course.{Left, noted, iterations, next_from, course}
-use Rattle.sial_meaning.specs.CourseDeeds.{depth_left, deeds_from}
+use Rattle.sial_meaning.specs.CourseDeeds.{deeds_from}
 use Rattle.sial_meaning.specs.CourseLaws.{BeginsWithPardo}
 use Rattle.sial_meaning.specs.DeedLaws.{IterationsAreTheirDeeds, PardosAreTheirDeeds}
 use Rattle.sial_meaning.specs.Deeds.{Deed, Traps, touches, traps, written, added, applied}

@@ -11,6 +11,8 @@ pub mod DeedTraps
 pub mod CourseDeedLemmas
 pub mod CourseLogLemmas
 pub mod DeedSumLemmas
+pub mod ToComeLemmas
+pub mod ToComeWalk
 pub mod AccumulationLemmas
 pub mod RestLemmas
 pub mod RestLemmasBound

@@ -1,5 +1,5 @@
 -- Control: how loops, branches, calls and pardos go on, by the rest of the work and what one worker holds alone.
-use Rattle.std.specs.Prelude.{ℕ, zero, suc, ◌+◌, List, length, Bool, true, false, nat_lt, Ok, Err}
+use Rattle.std.specs.Prelude.{ℕ, zero, suc, ◌+◌, ◌-◌, List, length, Bool, true, false, nat_lt, Ok, Err}
 use Rattle.sial_syntax.specs.declared.condition.Cond.{Cond}
 use Rattle.sial_syntax.specs.Boxes.{volume, tuple_at}
 use Rattle.sial_syntax.specs.Numbering.{sizes, entry_of}
@@ -12,6 +12,10 @@ use Rattle.sial_meaning.specs.Own.{Own, value_of, bound, none_bound, with_values
 use Rattle.sial_meaning.specs.Rest.{LoopAt, PardoAt, Rest, Over, Next, Turn, Join, Back, Within, push, depth}
 use Rattle.sial_meaning.specs.Setting.{Setting, procedure_body}
 use Rattle.sial_meaning.specs.Statement.{trap_at}
+
+-- how deep procedures may still call
+abbrev pub depth_left : Rest → ℕ
+depth_left rest = call_depth - depth rest
 
 -- where control goes: on to other work, with what the worker then holds, or to a trap
 pub data Led : Type 0 where

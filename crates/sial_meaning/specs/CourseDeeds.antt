@@ -1,21 +1,18 @@
 -- The deeds along the course: those of each step, and of all steps before a point.
-use Rattle.std.specs.Prelude.{ℕ, zero, suc, ◌-◌, List, [], ◌++◌, flat_map}
+use Rattle.std.specs.Prelude.{ℕ, zero, suc, List, [], ◌++◌, flat_map}
 use Rattle.sial_syntax.specs.declared.condition.Cond.{Cond}
 use Rattle.sial_syntax.specs.Boxes.{numbers_from, volume, tuple_at}
 use Rattle.sial_syntax.specs.Spaces.{box_of}
 use Rattle.sial_syntax.specs.Tree.{Block, Pardo}
+use Rattle.sial_meaning.specs.Control.{depth_left}
 use Rattle.sial_meaning.specs.Course.{course}
 use Rattle.sial_meaning.specs.Deeds.{Deed}
-use Rattle.sial_meaning.specs.Meaning.{taken_up, call_depth}
+use Rattle.sial_meaning.specs.Meaning.{taken_up}
 use Rattle.sial_meaning.specs.Own.{unset}
 use Rattle.sial_meaning.specs.Ran.{Ran, Held, Broke, view_of, deeds_of, statement_ran, iteration_ran}
-use Rattle.sial_meaning.specs.Rest.{Rest, Next, depth}
+use Rattle.sial_meaning.specs.Rest.{Rest, Next}
 use Rattle.sial_meaning.specs.Setting.{Setting}
 use Rattle.sial_meaning.specs.State.{State}
-
--- how deep procedures may call where so many are under way
-abbrev pub depth_left : Rest → ℕ
-depth_left rest = call_depth - depth rest
 
 -- the deeds of one iteration of a pardo that is entered in this state: of the tuple at this place of its box
 abbrev pub iteration_deeds : Setting → State → (indices : List ℕ) → (wheres : List Cond) → Block → (rest : Rest) → (number : ℕ) → List Deed

@@ -22,6 +22,8 @@ pub mod Course
 pub mod CourseDeeds
 pub mod DeedLaws
 pub mod DeedSums
+pub mod ToCome
+pub mod ToComeLaws
 pub mod Laws
 pub mod EpochLaws
 pub mod Runs

@@ -8,6 +8,6 @@ mod rest;
 
 pub use control::statements_do_what_they_ask_for;
 pub use course::{course_follows_the_fold, pardos_keep_the_control};
-pub use deeds::{deeds_of_one_kind, iterations_are_their_deeds};
+pub use deeds::{deeds_of_one_kind, iterations_are_their_deeds, steps_take_the_first_part_off};
 pub use epochs::epochs_agree_up_to_the_first_refusal;
 pub use rest::steps_reach_the_fold;
