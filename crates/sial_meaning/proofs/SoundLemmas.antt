@@ -7,8 +7,8 @@ use Rattle.sial_syntax.specs.declared.array.ArrayKind.TheVariants.{Static, Local
 use Rattle.sial_syntax.specs.declared.index.IndexDecl.{IndexDecl}
 use Rattle.sial_syntax.specs.Limits.{most_statements, most_names}
 use Rattle.sial_syntax.specs.Names.{is_name}
-use Rattle.sial_syntax.specs.Proper.{IsProper, proper_index, proper_array, proper_procedure, proper_depth, all_statements}
-use Rattle.sial_syntax.specs.Resolved.{Constants, AreSpacesBy, span_of_range, is_cut, has_segments, is_narrow, has_few_blocks, have_few_blocks, statement_within, has_small_box}
+use Rattle.sial_syntax.specs.Proper.{IsProper, is_number, proper_index, proper_array, proper_procedure, proper_depth, proper_numbers, all_statements}
+use Rattle.sial_syntax.specs.Resolved.{Constants, AreSpacesBy, may_be_constants, span_of_range, is_cut, has_segments, is_narrow, has_few_blocks, have_few_blocks, statement_within, has_small_box}
 use Rattle.sial_syntax.specs.Shapes.{shape_fault}
 use Rattle.sial_syntax.specs.SideRules.{side_fault}
 use Rattle.sial_syntax.specs.Sides.{scalar_classes, array_sides}
@@ -16,7 +16,7 @@ use Rattle.sial_syntax.specs.Spaces.{Spaces}
 use Rattle.sial_syntax.specs.Tree.{Tree}
 use Rattle.sial_syntax.specs.Visits.{Visit, all_visits}
 use Rattle.sial_meaning.specs.Setting.{Setting}
-use Rattle.sial_meaning.specs.Sound.{IsSound, is_number, is_start, given_twice}
+use Rattle.sial_meaning.specs.Sound.{IsSound, is_start, given_twice}
 use Rattle.sial_meaning.proofs.PairLemmas.{first-holds, second-holds, not-so}
 
 -- whether all of a row of tests hold
@@ -33,6 +33,7 @@ is_proper p =
     ∷ list_all is_name p.scalars
     ∷ list_all (proper_procedure p) p.procedures
     ∷ proper_depth p p.body
+    ∷ list_all proper_numbers (all_visits p)
     ∷ nat_le (length p.indices) most_names
     ∷ nat_le (length p.arrays) most_names
     ∷ nat_le (length p.scalars) most_names
@@ -43,7 +44,8 @@ is_proper p =
 -- whether spaces are a program's by these constants, but for the spans
 abbrev pub are_spaces : Constants → Tree → Spaces → List Bool
 are_spaces constants p spaces =
-    list_all is_cut (spaces.ao ∷ spaces.mo ∷ spaces.moa ∷ spaces.mob ∷ [])
+    may_be_constants constants
+    ∷ list_all is_cut (spaces.ao ∷ spaces.mo ∷ spaces.moa ∷ spaces.mob ∷ [])
     ∷ list_all (λ (i : IndexDecl). has_segments constants spaces i.range) p.indices
     ∷ list_all (is_narrow spaces) p.arrays
     ∷ list_all (has_few_blocks spaces) p.arrays
@@ -81,11 +83,12 @@ proper-by p all =
       scalars = e.1.1.1.0;
       procedures = e.1.1.1.1.0;
       body = e.1.1.1.1.1.0;
-      few_indices = at-most (length p.indices) most_names f.0;
-      few_arrays = at-most (length p.arrays) most_names f.1.0;
-      few_scalars = at-most (length p.scalars) most_names f.1.1.0;
-      few_procedures = at-most (length p.procedures) most_names f.1.1.1.0;
-      few_statements = at-most (all_statements p) most_statements f.1.1.1.1.0;
+      numbers = f.0;
+      few_indices = at-most (length p.indices) most_names f.1.0;
+      few_arrays = at-most (length p.arrays) most_names f.1.1.0;
+      few_scalars = at-most (length p.scalars) most_names f.1.1.1.0;
+      few_procedures = at-most (length p.procedures) most_names f.1.1.1.1.0;
+      few_statements = at-most (all_statements p) most_statements f.1.1.1.1.1.0;
     }
 
 spaces-by : (constants : Constants) (p : Tree) (spaces : Spaces) → hold (are_spaces constants p spaces) ≡ true → map Some spaces.spans ≡ map (λ (i : IndexDecl). span_of_range constants i.range) p.indices
@@ -93,14 +96,15 @@ spaces-by : (constants : Constants) (p : Tree) (spaces : Spaces) → hold (are_s
 spaces-by constants p spaces all spans =
     let e = each (are_spaces constants p spaces) all in
     record {
-      cuts = e.0;
+      given = e.0;
+      cuts = e.1.0;
       spans = spans;
-      segments = e.1.0;
-      narrow = e.1.1.0;
-      few = e.1.1.1.0;
-      together = e.1.1.1.1.0;
-      within = e.1.1.1.1.1.0;
-      boxes = e.1.1.1.1.1.1.0;
+      segments = e.1.1.0;
+      narrow = e.1.1.1.0;
+      few = e.1.1.1.1.0;
+      together = e.1.1.1.1.1.0;
+      within = e.1.1.1.1.1.1.0;
+      boxes = e.1.1.1.1.1.1.1.0;
     }
 
 -- a setting is sound where each of these comes out so

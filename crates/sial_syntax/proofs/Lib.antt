@@ -3,6 +3,7 @@ pub mod BoxLemmas
 pub mod RankLemmas
 pub mod FaultyPrograms
 pub mod AmongLemmas
+pub mod KindLemmas
 pub mod CallLemmas
 pub mod DepthLemmas
 pub mod SideLemmas
