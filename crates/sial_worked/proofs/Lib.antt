@@ -1,0 +1,4 @@
+mod SoundLemmas
+mod ProgramsRun
+mod FeaturesRun
+mod RulesAre
