@@ -21,6 +21,11 @@ use Rattle.sial_worked.specs.NotAllocated.{not_allocated, not_allocated_final, N
 use Rattle.sial_worked.specs.SecondArray.{second_array, second_array_final, SecondArrayRuns}
 use Rattle.sial_worked.specs.ServedClash.{served_clash, served_clash_final, ServedClashRuns}
 use Rattle.sial_worked.specs.Named.{named, named_final, NamedRuns, named_constants}
+use Rattle.sial_worked.specs.Reset.{reset, reset_final, ResetRuns}
+use Rattle.sial_worked.specs.Rounds.{rounds, rounds_final, RoundsRuns}
+use Rattle.sial_worked.specs.Beats.{beats, beats_final, BeatsRuns}
+use Rattle.sial_worked.specs.Stale.{stale, stale_final, StaleRuns}
+use Rattle.sial_worked.specs.GoesOn.{goes_on, goes_on_final, GoesOnRuns}
 use Rattle.sial_worked.proofs.SoundLemmas.{run-by}
 
 pub parts-runs : PartsRuns
@@ -84,3 +89,19 @@ served-clash-runs = run-by served_clash served_clash_final _ [] refl refl refl r
 pub named-runs : NamedRuns
 unfolding digits
 named-runs = run-by named named_final None named_constants refl refl refl refl refl refl refl refl refl refl
+
+pub reset-runs : ResetRuns
+unfolding digits
+reset-runs = run-by reset reset_final None [] refl refl refl refl refl refl refl refl refl refl
+
+pub rounds-runs : RoundsRuns
+rounds-runs = run-by rounds rounds_final None [] refl refl refl refl refl refl refl refl refl refl
+
+pub beats-runs : BeatsRuns
+beats-runs = run-by beats beats_final None [] refl refl refl refl refl refl refl refl refl refl
+
+pub stale-runs : StaleRuns
+stale-runs = run-by stale stale_final _ [] refl refl refl refl refl refl refl refl refl refl
+
+pub goes-on-runs : GoesOnRuns
+goes-on-runs = run-by goes_on goes_on_final _ [] refl refl refl refl refl refl refl refl refl refl

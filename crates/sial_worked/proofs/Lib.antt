@@ -2,3 +2,5 @@ mod SoundLemmas
 mod ProgramsRun
 mod FeaturesRun
 mod RulesAre
+mod EpochsAre
+mod CostsAre

@@ -15,7 +15,7 @@
 --    13  endsial clash
 --
 -- Its input is empty.
-use Rattle.std.specs.Prelude.{ℕ, [], ◌∷◌, codes, Some, None}
+use Rattle.std.specs.Prelude.{◌≡◌, ℕ, [], ◌∷◌, codes, Some, None}
 use Rattle.sial_syntax.specs.declared.access.Access.TheVariants as access
 use Rattle.sial_syntax.specs.declared.access.Access.{Access}
 use Rattle.sial_syntax.specs.declared.access.Class.TheVariants as class
@@ -31,9 +31,12 @@ use Rattle.sial_syntax.specs.declared.operand.Right.TheVariants.{One}
 use Rattle.sial_syntax.specs.declared.operand.Target.TheVariants as target
 use Rattle.sial_syntax.specs.Spaces.{Segments}
 use Rattle.sial_syntax.specs.Tree.{Tree, End, Then, Do, Pardo, Assign, Put, Create}
-use Rattle.sial_meaning.specs.Accepted.{Clashed}
+use Rattle.sial_meaning.specs.Accepted.{Clashed, first_refusal, refusal_of}
+use Rattle.sial_meaning.specs.Course.{course}
+use Rattle.sial_meaning.specs.Meaning.{by_epochs}
+use Rattle.sial_meaning.specs.Rest.{Over}
 use Rattle.sial_meaning.specs.Setting.{Setting}
-use Rattle.sial_worked.specs.Runs.{Final, Run, empty, spaces_of}
+use Rattle.sial_worked.specs.Runs.{Final, Run, empty, final_of, final_state, spaces_of}
 
 -- its tree, with this way to put in line 10
 abbrev pub clash_program : Access → Tree
@@ -117,3 +120,12 @@ clash_max_final = clash_final
 -- how it runs
 abbrev pub ClashMaxRuns : Type 0
 ClashMaxRuns = Run clash_max clash_max_final None
+
+-- the epoch meaning and its course end there too: the course in two steps, the second of them the pardo
+pub record ClashByEpochs : Type 0 where
+  pub ends : final_of (by_epochs clash) ≡ clash_final
+  pub refused : refusal_of (by_epochs clash) ≡ first_refusal clash
+  pub created : final_state (course clash 1).work.state ≡ record clash_final { distributed = (0 ∷ []) ∷ []; accesses = 0 }
+  pub pardo : final_state (course clash 2).work.state ≡ clash_final
+  pub over : (course clash 2).work.rest ≡ Over 7
+  pub traps : (course clash 2).traps ≡ []

@@ -36,5 +36,15 @@ pub mod NotAllocated
 pub mod SecondArray
 pub mod ServedClash
 pub mod Named
+pub mod Reset
+pub mod Rounds
+pub mod Beats
+pub mod Stale
+pub mod GoesOn
 pub mod Part
 pub mod OtherSpaces
+pub mod Chain
+pub mod TwoFaults
+pub mod Later
+pub mod Deep
+pub mod Counted

@@ -3,21 +3,27 @@
 ghost use Rattle.sial_worked.specs.Again.{AgainRuns};
 ghost use Rattle.sial_worked.specs.Apart.{ApartRuns};
 ghost use Rattle.sial_worked.specs.Barrier.{BarrierRuns};
+ghost use Rattle.sial_worked.specs.Chain.{ChainIsRefused};
 ghost use Rattle.sial_worked.specs.Chunks.{ChunksRuns, ChunksThreeRuns, ChunksNoneRuns};
-ghost use Rattle.sial_worked.specs.Clash.{ClashRuns, ClashAddRuns, ClashMaxRuns};
+ghost use Rattle.sial_worked.specs.Clash.{ClashByEpochs, ClashRuns, ClashAddRuns, ClashMaxRuns};
+ghost use Rattle.sial_worked.specs.Counted.{StepsAreCounted, WordsAreCounted};
 ghost use Rattle.sial_worked.specs.Disk.{DiskRuns};
 ghost use Rattle.sial_worked.specs.First.{FirstRuns};
+ghost use Rattle.sial_worked.specs.GoesOn.{GoesOnCourse};
 ghost use Rattle.sial_worked.specs.Gone.{GoneRuns};
+ghost use Rattle.sial_worked.specs.Later.{EarlierLineFirst, FirstLineFirst};
 ghost use Rattle.sial_worked.specs.Mix.{MixRuns};
 ghost use Rattle.sial_worked.specs.Order.{OrderRuns, OrderOpenRuns, OrderServedRuns};
 ghost use Rattle.sial_worked.specs.Part.{PartIsRefused};
 ghost use Rattle.sial_worked.specs.Plain.{PlainRuns};
 ghost use Rattle.sial_worked.specs.Shape.{ShapeRuns};
 ghost use Rattle.sial_worked.specs.Small.{SmallIsProper, SmallRuns};
+ghost use Rattle.sial_worked.specs.Stale.{StaleByEpochs};
 ghost use Rattle.sial_worked.specs.Tight.{TightRuns};
 ghost use Rattle.sial_worked.specs.Top.{TopRuns};
 ghost use Rattle.sial_worked.specs.Turns.{TurnsRuns};
 ghost use Rattle.sial_worked.specs.Twice.{TwiceRuns};
+ghost use Rattle.sial_worked.specs.TwoFaults.{TwoFaultsOnOneLine, TwoStatementsOnOneLine};
 ghost use Rattle.sial_worked.specs.Wrap.{WrapRuns};
 
 /// Each program that the rules grant: its end, its lines, its accesses and epochs, and its first refusal.
@@ -48,8 +54,26 @@ pub fn worked_programs()
     ensures top { TopRuns }
 {}
 
-/// What the rules say of a program that they refuse, and of one that is proper.
+/// What the rules say of programs that they refuse, and of one that is proper.
 pub fn worked_rules()
     ensures part { PartIsRefused }
     ensures small { SmallIsProper }
+    ensures too_deep { ChainIsRefused }
+    ensures two_faults { TwoFaultsOnOneLine }
+    ensures two_statements { TwoStatementsOnOneLine }
+    ensures first_line { FirstLineFirst }
+    ensures earlier_line { EarlierLineFirst }
+{}
+
+/// Epoch meanings and their courses, where these part from the sequential meaning or go on behind a trap.
+pub fn worked_epochs()
+    ensures clash { ClashByEpochs }
+    ensures stale { StaleByEpochs }
+    ensures goes_on { GoesOnCourse }
+{}
+
+/// Steps and words that a checker of the rule needs.
+pub fn worked_costs()
+    ensures steps { StepsAreCounted }
+    ensures words { WordsAreCounted }
 {}

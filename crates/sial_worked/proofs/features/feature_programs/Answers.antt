@@ -22,4 +22,9 @@ returns c = record {
   second_array = runs.second-array-runs;
   served_clash = runs.served-clash-runs;
   named = runs.named-runs;
+  reset = runs.reset-runs;
+  rounds = runs.rounds-runs;
+  beats = runs.beats-runs;
+  stale = runs.stale-runs;
+  goes_on = runs.goes-on-runs;
 }
