@@ -8,3 +8,6 @@ pub mod CallLemmas
 pub mod DepthLemmas
 pub mod SideLemmas
 pub mod GrantedLemmas
+pub mod ReachedByChains
+pub mod DepthByCalls
+pub mod SidesByCalls

@@ -15,5 +15,6 @@ pub mod Widths
 pub mod Resolved
 pub mod BoxLaws
 pub mod KindLaws
+pub mod CallLaws
 pub mod FaultyShapes
 pub mod FaultySides

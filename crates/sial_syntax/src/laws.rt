@@ -1,6 +1,7 @@
 //! What the definitions of boxes and of faults say: laws that proofs above cite, with nothing to run.
 
 ghost use Rattle.sial_syntax.specs.BoxLaws.{NumbersOfRank, NumbersWithin, PlaceOfTuple, PlaceWithin, RankOfNumbers, RankWithin, TupleOfPlace, TuplesCounted, TuplesInOrder, TupleWithin};
+ghost use Rattle.sial_syntax.specs.CallLaws.{DepthByCalls, InnerByCalls, OuterByCalls, ReachedByChains};
 ghost use Rattle.sial_syntax.specs.FaultyShapes.{ShapeFaultsFound};
 ghost use Rattle.sial_syntax.specs.FaultySides.{SideFaultsFound};
 ghost use Rattle.sial_syntax.specs.KindLaws.{KindOfSegments, KindOfSubindex};
@@ -31,6 +32,14 @@ pub fn ranks_and_numbers()
 pub fn kinds_of_indices()
     ensures segments { KindOfSegments }
     ensures subindex { KindOfSubindex }
+{}
+
+/// Where chains of calls lead, how deep they go, and which sides they give.
+pub fn chains_of_calls()
+    ensures reached { ReachedByChains }
+    ensures depth { DepthByCalls }
+    ensures outer { OuterByCalls }
+    ensures inner { InnerByCalls }
 {}
 
 /// Programs with one fault each: where it is found, and as which.
