@@ -1,6 +1,6 @@
-//! What a run with memory shows.
+//! Texts and tuples hold what they were given, where there is memory.
 
-use crate::{Text, Tuple};
+use sial_syntax::{Text, Tuple};
 use std::test::Fail;
 
 #[test]
