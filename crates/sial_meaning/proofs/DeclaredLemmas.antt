@@ -6,12 +6,13 @@ use Rattle.sial_syntax.specs.declared.index.Kind.{Kind}
 use Rattle.sial_syntax.specs.declared.index.Kind.TheVariants.{Index}
 use Rattle.sial_syntax.specs.declared.index.Range.{Range}
 use Rattle.sial_syntax.specs.declared.index.Range.TheVariants as range
-use Rattle.sial_syntax.specs.Agreeing.{range_in, range_super, range_kind, own_kind as own_range_kind, is_kind, is_sub, same_flag, may_stand_for}
+use Rattle.sial_syntax.specs.Agreeing.{range_in, range_super, index_kind, is_kind, is_sub, same_flag, may_stand_for}
 use Rattle.sial_syntax.specs.Resolved.{Constants, bound_number, segments_between, span_between, span_of_range}
 use Rattle.sial_syntax.specs.Spaces.{Span, Segments, Pieces, span_of, own_kind, span_kind, kind_of}
+use Rattle.sial_syntax.proofs.KindLemmas.{kind-of-segments, kind-of-subindex}
 use Rattle.sial_meaning.specs.Setting.{Setting}
 use Rattle.sial_meaning.specs.Sound.{IsSound}
-use Rattle.sial_meaning.proofs.GrantedLemmas.{one-some, same-first, same-rest, no_index}
+use Rattle.sial_meaning.proofs.GrantedLemmas.{one-some, same-first, same-rest, no_index, no-sub-of-sub}
 use Rattle.sial_meaning.proofs.PairLemmas.{first-holds, second-holds}
 use Rattle.sial_meaning.proofs.SameLemmas.{kinds-one, flags-one}
 
@@ -49,21 +50,23 @@ index-runs : (g : Setting) → IsSound g → (i : ℕ) → Runs (span_of g.space
 index-runs g sound i = spans-run sound.spaces.0 g.spaces.spans g.program.indices i sound.spaces.1.spans
 
 -- the kind of a span is that of its range
-own-kinds : (s : Span) (r : Range) → Runs s r → own_kind s ≡ own_range_kind r
-own-kinds (Segments kind first count) (range.Segments declared lo hi) runs = runs
-own-kinds (Segments kind first count) (range.Sub super) runs = absurd runs
-own-kinds (Pieces super) (range.Segments declared lo hi) runs = absurd runs
-own-kinds (Pieces super) (range.Sub declared) runs = refl
+own-kinds : (g : Setting) → IsSound g → (i : ℕ) (s : Span) (r : Range) → Runs s r → range_in g.program i ≡ r → is_some (range_super r) ≡ false → own_kind s ≡ index_kind g.program i
+own-kinds g sound i (Segments kind first count) (range.Segments declared lo hi) runs is whole = runs ∙ sym (kind-of-segments g.program i declared lo hi sound.setting.proper is)
+own-kinds g sound i (Segments kind first count) (range.Sub super) runs is whole = absurd runs
+own-kinds g sound i (Pieces super) (range.Segments declared lo hi) runs is whole = absurd runs
+own-kinds g sound i (Pieces super) (range.Sub declared) runs is whole = absurd cc
 
-kinds : (g : Setting) → IsSound g → (s : Span) (r : Range) → Runs s r → span_kind g.spaces s ≡ range_kind g.program r
-kinds g sound (Segments kind first count) (range.Segments declared lo hi) runs = runs
-kinds g sound (Segments kind first count) (range.Sub super) runs = absurd runs
-kinds g sound (Pieces super) (range.Segments declared lo hi) runs = absurd runs
-kinds g sound (Pieces super) (range.Sub declared) runs =
-    own-kinds (span_of g.spaces super) (range_in g.program super) (index-runs g sound super) ∙ ap (λ x. own_range_kind (range_in g.program x)) runs
+kinds : (g : Setting) → IsSound g → (i : ℕ) (s : Span) (r : Range) → Runs s r → range_in g.program i ≡ r → span_kind g.spaces s ≡ index_kind g.program i
+kinds g sound i (Segments kind first count) (range.Segments declared lo hi) runs is = own-kinds g sound i (Segments kind first count) (range.Segments declared lo hi) runs is refl
+kinds g sound i (Segments kind first count) (range.Sub super) runs is = absurd runs
+kinds g sound i (Pieces super) (range.Segments declared lo hi) runs is = absurd runs
+kinds g sound i (Pieces super) (range.Sub declared) runs is =
+    ap (λ x. own_kind (span_of g.spaces x)) runs
+    ∙ (own-kinds g sound declared (span_of g.spaces declared) (range_in g.program declared) (index-runs g sound declared) refl (no-sub-of-sub g sound i declared is)
+    ∙ sym (kind-of-subindex g.program i declared sound.setting.proper is))
 
-kind-is : (g : Setting) → IsSound g → (i : ℕ) → kind_of g.spaces i ≡ range_kind g.program (range_in g.program i)
-kind-is g sound i = kinds g sound (span_of g.spaces i) (range_in g.program i) (index-runs g sound i)
+kind-is : (g : Setting) → IsSound g → (i : ℕ) → kind_of g.spaces i ≡ index_kind g.program i
+kind-is g sound i = kinds g sound i (span_of g.spaces i) (range_in g.program i) (index-runs g sound i) refl
 
 -- whether a span is the pieces of an index
 abbrev pub is_pieces : Span → Bool
@@ -87,9 +90,9 @@ pub record Stands (g : Setting) (used declared : ℕ) : Type 0 where
 pub stands-for : (g : Setting) → IsSound g → (u d : ℕ) → may_stand_for g.program u d ≡ true → Stands g u d
 stands-for g sound u d may =
     let p = g.program in
-    let same = first-holds (is_kind (range_kind p (range_in p u)) (range_kind p (range_in p d))) (same_flag (is_sub p u) (is_sub p d)) may in
-    let flags = second-holds (is_kind (range_kind p (range_in p u)) (range_kind p (range_in p d))) (same_flag (is_sub p u) (is_sub p d)) may in
+    let same = first-holds (is_kind (index_kind p u) (index_kind p d)) (same_flag (is_sub p u) (is_sub p d)) may in
+    let flags = second-holds (is_kind (index_kind p u) (index_kind p d)) (same_flag (is_sub p u) (is_sub p d)) may in
     record {
-      kind = kind-is g sound u ∙ (kinds-one (range_kind p (range_in p u)) (range_kind p (range_in p d)) same ∙ sym (kind-is g sound d));
+      kind = kind-is g sound u ∙ (kinds-one (index_kind p u) (index_kind p d) same ∙ sym (kind-is g sound d));
       cut = sub-is g sound u ∙ (flags-one (is_sub p u) (is_sub p d) flags ∙ sym (sub-is g sound d));
     }

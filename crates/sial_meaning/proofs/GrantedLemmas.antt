@@ -13,7 +13,7 @@ use Rattle.sial_syntax.specs.declared.operand.Op.{Op}
 use Rattle.sial_syntax.specs.declared.operand.Operand.TheVariants as operand
 use Rattle.sial_syntax.specs.declared.operand.Right.TheVariants.{One}
 use Rattle.sial_syntax.specs.declared.operand.Target.TheVariants as target
-use Rattle.sial_syntax.specs.Agreeing.{has_twice, range_in, range_super, is_number, is_sub, is_sub_of, cuts_all, copy_agrees}
+use Rattle.sial_syntax.specs.Agreeing.{has_twice, range_in, range_super, is_this, is_sub, is_sub_of, cuts_all, copy_agrees}
 use Rattle.sial_syntax.specs.Parts.{blocks_named, slots_named, slot_index}
 use Rattle.sial_syntax.specs.Resolved.{Constants, bound_number, segments_between, span_between, span_of_range}
 use Rattle.sial_syntax.specs.Shapes.{breaks_repeated, breaks_indices, index_breaks_kind, cuts_sub, wrong_rank, wrong_slot_rank, disagrees}
@@ -82,7 +82,7 @@ between-segments kind (Some lo) (Some hi) s w same =
     ap (λ x. is_pieces_of x w) (one-some s (segments_between kind lo hi) same) ∙ not-pieces kind lo ((hi + 1) - lo) w (nat_lt hi lo)
 
 -- a declared span cuts what its range says
-span-cuts : (constants : Constants) (r : Range) (s : Span) (w : ℕ) → Some s ≡ span_of_range constants r → is_pieces_of s w ≡ is_number (range_super r) w
+span-cuts : (constants : Constants) (r : Range) (s : Span) (w : ℕ) → Some s ≡ span_of_range constants r → is_pieces_of s w ≡ is_this (range_super r) w
 span-cuts constants (range.Segments kind lo hi) s w same = between-segments kind (bound_number constants lo) (bound_number constants hi) s w same
 span-cuts constants (range.Sub super) s w same = ap (λ x. is_pieces_of x w) (one-some s (Pieces super) same)
 
@@ -100,7 +100,7 @@ no_index = record { name = []; line = 0; range = range.Segments Index (Number 1)
 
 -- the spans of a program cut what its ranges say
 spans-cut : (constants : Constants) (spans : List Span) (indices : List IndexDecl) (x w : ℕ) → map Some spans ≡ map (λ (i : IndexDecl). span_of_range constants i.range) indices
-    → is_pieces_of (slice_index_or spans x (Segments Index 1 0)) w ≡ is_number (range_super (slice_index_or indices x no_index).range) w
+    → is_pieces_of (slice_index_or spans x (Segments Index 1 0)) w ≡ is_this (range_super (slice_index_or indices x no_index).range) w
 spans-cut constants [] [] x w same = refl
 spans-cut constants [] (i ∷ is) x w same = absurd cc
 spans-cut constants (s ∷ ss) [] x w same = absurd cc
@@ -123,7 +123,7 @@ cuts-all-as-said g sound (x ∷ xs) (w ∷ ws) =
     ∙ ap (λ b. ((x == w) || cuts g.spaces x w) && b) (cuts-all-as-said g sound xs ws)
 
 -- an index that cuts another is declared so
-declared-sub : (r : Range) (w : ℕ) → is_number (range_super r) w ≡ true → r ≡ range.Sub w
+declared-sub : (r : Range) (w : ℕ) → is_this (range_super r) w ≡ true → r ≡ range.Sub w
 declared-sub (range.Segments kind lo hi) w is = absurd (never is)
 declared-sub (range.Sub super) w is = ap range.Sub (eqb-true super w is)
 
@@ -133,8 +133,13 @@ no-cut-sub p [] x none = refl
 no-cut-sub p (i ∷ is) zero none = (kept_none (index_breaks_kind p i) i (filter (index_breaks_kind p) is) none).0
 no-cut-sub p (i ∷ is) (suc x) none = no-cut-sub p is x (kept_none (index_breaks_kind p i) i (filter (index_breaks_kind p) is) none).1
 
+-- the super index of a subindex is none
+pub no-sub-of-sub : (g : Setting) → IsSound g → (sub super : ℕ) → range_in g.program sub ≡ range.Sub super → is_sub g.program super ≡ false
+no-sub-of-sub g sound sub super is =
+    ap (cuts_sub g.program) (sym is) ∙ no-cut-sub g.program g.program.indices sub (shapes-hold g.program sound.setting.granted).declared_indices
+
 -- an index that cuts another is a subindex
-cutting-is-sub : (r : Range) (w : ℕ) → is_number (range_super r) w ≡ true → is_some (range_super r) ≡ true
+cutting-is-sub : (r : Range) (w : ℕ) → is_this (range_super r) w ≡ true → is_some (range_super r) ≡ true
 cutting-is-sub (range.Segments kind lo hi) w is = absurd (never is)
 cutting-is-sub (range.Sub super) w is = refl
 

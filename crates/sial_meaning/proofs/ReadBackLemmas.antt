@@ -145,10 +145,13 @@ part-by-span spaces values t s (Segments kind first count) whole is are =
     ∙ ap (λ x. piece_at x (cut_of spaces (kind_of spaces t)).piece (slice_index_or values t 0)) (sym (ap (span_extent spaces values s) are)))
 
 piece-lies : (whole : Extent) (piece number k : ℕ) → k < (piece_at whole piece number).len → lies_on whole ((piece_at whole piece number).start + k) ≡ true
-piece-lies whole piece number k below =
-    let low : whole.start ≤ ((whole.start + (number - 1) * piece) + k) = omega arith in
-    let high : ((whole.start + (number - 1) * piece) + k) < (whole.start + whole.len) = omega (arith, below) in
-    lies-from whole ((whole.start + (number - 1) * piece) + k) low high
+piece-lies whole piece zero k below = absurd (omega (arith, below))
+piece-lies whole piece (suc number) k below =
+    let before : ◌≡◌ {A = ℕ} (suc number - 1) number = omega arith in
+    let same : (suc number - 1) * piece ≡ number * piece = ap (λ n. n * piece) before in
+    let low : whole.start ≤ ((whole.start + (suc number - 1) * piece) + k) = omega arith in
+    let high : ((whole.start + (suc number - 1) * piece) + k) < (whole.start + whole.len) = omega (arith, below, same) in
+    lies-from whole ((whole.start + (suc number - 1) * piece) + k) low high
 
 -- a position of a part lies on the whole
 part-lies : (spaces : Spaces) (values : List ℕ) (t s k : ℕ) → NoPartOfPart spaces → cuts spaces t s ≡ true → k < (extent spaces values t).len → lies_on (extent spaces values s) ((extent spaces values t).start + k) ≡ true

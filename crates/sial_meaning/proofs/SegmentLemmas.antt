@@ -40,9 +40,15 @@ sums-rise (l ∷ ls) (suc a) (suc b) below =
 
 -- a segment ends before a later one begins
 ends-before : (ls : List ℕ) (n m : ℕ) → 1 ≤ n → n < m → ((among ls n).start + (among ls n).len) ≤ (among ls m).start
-ends-before ls n m some below =
-    let rise = sums-rise ls (n - 1) (m - 1) (omega (arith, some, below)) in
-    omega (arith, rise)
+ends-before ls zero m some below = absurd (omega (arith, some))
+ends-before ls (suc n) zero some below = absurd (omega (arith, below))
+ends-before ls (suc n) (suc m) some below =
+    let first : ◌≡◌ {A = ℕ} (suc n - 1) n = omega arith in
+    let second : ◌≡◌ {A = ℕ} (suc m - 1) m = omega arith in
+    let one : sum (take (suc n - 1) ls) ≡ sum (take n ls) = ap (λ k. sum (take k ls)) first in
+    let other : sum (take (suc m - 1) ls) ≡ sum (take m ls) = ap (λ k. sum (take k ls)) second in
+    let rise = sums-rise ls n m (omega (arith, below)) in
+    omega (arith, rise, one, other)
 
 -- two numbers of which neither is less are one
 neither-less : (n m : ℕ) → (n < m → ⊥) → (m < n → ⊥) → n ≡ m

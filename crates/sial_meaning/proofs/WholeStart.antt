@@ -8,10 +8,11 @@ use Rattle.sial_syntax.specs.declared.array.ArrayDecl.{ArrayDecl}
 use Rattle.sial_syntax.specs.declared.array.ArrayKind.{ArrayKind}
 use Rattle.sial_syntax.specs.declared.array.ArrayKind.TheVariants.{Static, Temp, Local, Distributed, Served}
 use Rattle.sial_syntax.specs.Boxes.{numbers_from}
+use Rattle.sial_syntax.specs.Proper.{is_number}
 use Rattle.sial_syntax.specs.Spaces.{same_kind, blocks_of, blocks_together}
 use Rattle.sial_meaning.specs.Own.{for_each, given_or, start_block, start_statics, start_locals, start_own}
 use Rattle.sial_meaning.specs.Setting.{Setting, Given, array_of, array_kind, block_count, block_words, first_of_class, no_array, zeros}
-use Rattle.sial_meaning.specs.Sound.{IsSound, may_be_given, is_number, is_start}
+use Rattle.sial_meaning.specs.Sound.{IsSound, may_be_given, is_start}
 use Rattle.sial_meaning.specs.State.{start_shared, start_blocks, start_state}
 use Rattle.sial_meaning.specs.WholeStates.{OwnIsWhole, DistributedIsWhole, ServedIsWhole, IsWhole, words_if}
 use Rattle.sial_meaning.proofs.OwnLemmas.{row-long}

@@ -26,14 +26,6 @@ pub mod ToCome
 pub mod ToComeLaws
 pub mod Laws
 pub mod EpochLaws
-pub mod Runs
-pub mod WorkedFirst
-pub mod WorkedSmall
-pub mod WorkedClashes
-pub mod WorkedOrders
-pub mod WorkedPardos
-pub mod WorkedServed
-pub mod WorkedRules
 pub mod AcceptedLaws
 pub mod Whole
 pub mod WholeLaws
@@ -41,11 +33,5 @@ pub mod WholeStates
 pub mod HeldLaws
 pub mod ReadBackLaws
 pub mod CopyLaws
-pub mod WorkedParts
-pub mod WorkedCalls
-pub mod WorkedTraps
 pub mod MarkLaws
-pub mod WorkedUnset
-pub mod WorkedLater
-pub mod WorkedSpaces
 pub mod CourseLaws

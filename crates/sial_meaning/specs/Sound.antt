@@ -1,17 +1,13 @@
 -- Settings that are a program's own: its classes, its spaces with some input, and start values that fit it.
-use Rattle.std.specs.Prelude.{◌≡◌, ℕ, ◌^◌, List, [], ◌∷◌, length, Bool, true, false, ◌==◌, ◌&&◌, ◌||◌, nat_lt, IsTrue}
+use Rattle.std.specs.Prelude.{◌≡◌, List, [], ◌∷◌, length, Bool, true, false, ◌==◌, ◌&&◌, ◌||◌, nat_lt, IsTrue}
 use Rattle.std.specs.List.{list_all, list_any}
 use Rattle.sial_syntax.specs.declared.array.ArrayKind.{ArrayKind}
 use Rattle.sial_syntax.specs.declared.array.ArrayKind.TheVariants.{Static, Temp, Local, Distributed, Served}
-use Rattle.sial_syntax.specs.Proper.{IsProper}
+use Rattle.sial_syntax.specs.Proper.{IsProper, is_number}
 use Rattle.sial_syntax.specs.Resolved.{AreSpacesOf}
 use Rattle.sial_syntax.specs.SideRules.{IsGranted}
 use Rattle.sial_syntax.specs.Sides.{scalar_classes, array_sides}
 use Rattle.sial_meaning.specs.Setting.{Setting, Given, array_kind, block_count, block_words}
-
--- whether something is a number
-abbrev pub is_number : ℕ → Bool
-is_number n = nat_lt n (2 ^ 64)
 
 -- whether an input may give blocks of an array of this kind
 abbrev pub may_be_given : ArrayKind → Bool

@@ -3,9 +3,7 @@
 
 pub mod acceptance;
 mod clash;
-pub mod features;
 pub mod laws;
-pub mod programs;
 pub mod read_back;
 mod standing;
 mod trap;

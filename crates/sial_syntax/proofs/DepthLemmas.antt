@@ -88,7 +88,7 @@ shallow_after p proper none (suc most) q ys chain below sum =
     (λ r m. shallow_after p proper none most r (q ∷ ys) (m, chain) (calls_below p proper q r m, below) (omega (arith, sum)))
 
 -- chains of calls are no longer than there are procedures
-all_shallow : (p : Tree) → IsProper p → recursion p ≡ None → (q : ℕ) → q < length p.procedures → shallow p (suc (length p.procedures)) q ≡ true
+pub all_shallow : (p : Tree) → IsProper p → recursion p ≡ None → (q : ℕ) → q < length p.procedures → shallow p (suc (length p.procedures)) q ≡ true
 all_shallow p proper none q there = shallow_after p proper none (suc (length p.procedures)) q [] (tt, tt) (there, tt) (omega arith)
 
 -- what the greatest begins with is no greater

@@ -3,7 +3,11 @@ pub mod BoxLemmas
 pub mod RankLemmas
 pub mod FaultyPrograms
 pub mod AmongLemmas
+pub mod KindLemmas
 pub mod CallLemmas
 pub mod DepthLemmas
 pub mod SideLemmas
 pub mod GrantedLemmas
+pub mod ReachedByChains
+pub mod DepthByCalls
+pub mod SidesByCalls

@@ -6,6 +6,7 @@ use Rattle.std.proofs.lemmas.List.{length-map, length-replicate}
 use Rattle.std.proofs.lemmas.List.FromFn.{length-enumerate_from}
 use Rattle.sial_syntax.specs.Agreeing.{contains}
 use Rattle.sial_syntax.specs.Proper.{IsProper}
+pub use Rattle.sial_syntax.specs.Sides.{sides_of}
 use Rattle.sial_syntax.specs.Sides.{Sides, Sided, no_side, either_side, sides_at, called_by, sided_body, sided_procedures, sided, sides_given, procedure_sides, all_sided}
 use Rattle.sial_syntax.specs.SideRules.{recursion}
 use Rattle.sial_syntax.specs.Tree.{Tree, Procedure}
@@ -52,7 +53,7 @@ fold_is b a [] = none (on_side b a)
 fold_is b a (x ∷ xs) = fold_is b (either_side a x) xs ∙ (ap (λ c. c || list_any (on_side b) xs) (either_is b a x) ∙ or_or (on_side b a) (on_side b x) (list_any (on_side b) xs))
 
 -- a call on a side gives it
-given_from : (b : Bool) (calls : List Sided) (q : ℕ) (x : Sided) → Among x calls → Among q (called_by x.form) → on_side b x.sides ≡ true → on_side b (sides_given calls q) ≡ true
+pub given_from : (b : Bool) (calls : List Sided) (q : ℕ) (x : Sided) → Among x calls → Among q (called_by x.form) → on_side b x.sides ≡ true → on_side b (sides_given calls q) ≡ true
 given_from b calls q x m c e =
     fold_is b no_side (map (λ (s : Sided). s.sides) (filter (λ (s : Sided). contains (called_by s.form) q) calls))
     ∙ or_right
@@ -66,11 +67,11 @@ given_from b calls q x m c e =
     e)
 
 -- a call that gives a side
-abbrev Gives : Bool → List Sided → ℕ → Type 0
+abbrev pub Gives : Bool → List Sided → ℕ → Type 0
 Gives b calls q = (x : Sided) × Among x calls × Among q (called_by x.form) × (on_side b x.sides ≡ true)
 
 -- a side that is given is given by a call
-given_by : (b : Bool) (calls : List Sided) (q : ℕ) → on_side b (sides_given calls q) ≡ true → Gives b calls q
+pub given_by : (b : Bool) (calls : List Sided) (q : ℕ) → on_side b (sides_given calls q) ≡ true → Gives b calls q
 given_by b calls q e =
     let kept = filter (λ (s : Sided). contains (called_by s.form) q) calls in
     ⊎_elim
@@ -83,23 +84,23 @@ given_by b calls q e =
     (or_cases (on_side b no_side) (list_any (on_side b) (map (λ (s : Sided). s.sides) kept)) (sym (fold_is b no_side (map (λ (s : Sided). s.sides) kept)) ∙ e))
 
 -- there are as many sides as procedures
-sides_length : (p : Tree) (depth : ℕ) → length (procedure_sides p depth) ≡ length p.procedures
+pub sides_length : (p : Tree) (depth : ℕ) → length (procedure_sides p depth) ≡ length p.procedures
 sides_length p zero = length-replicate (length p.procedures) no_side
 sides_length p (suc depth) =
     length-map (enumerate_from 0 p.procedures) (λ (q : ℕ × Procedure). sides_given (sided p (procedure_sides p depth)) q.0) ∙ length-enumerate_from 0 p.procedures
 
 -- the sides of a procedure, as calls one deeper give them
-side_next : (p : Tree) (depth q : ℕ) → q < length p.procedures → side_at p (suc depth) q ≡ sides_given (sided p (procedure_sides p depth)) q
+pub side_next : (p : Tree) (depth q : ℕ) → q < length p.procedures → side_at p (suc depth) q ≡ sides_given (sided p (procedure_sides p depth)) q
 side_next p depth q there =
     let same : ◌≡◌ {A = ℕ} (0 + q) q = omega arith in
     numbered_at (sides_given (sided p (procedure_sides p depth))) 0 p.procedures q no_side there ∙ ap (sides_given (sided p (procedure_sides p depth))) same
 
 -- a statement of a procedure
-abbrev OfProcedure : Sided → List Procedure → List Sides → Type 0
+abbrev pub OfProcedure : Sided → List Procedure → List Sides → Type 0
 OfProcedure x qs ss = (r : ℕ) × (r < length qs) × Among x (sided_body (slice_index_or ss r no_side) (slice_index_or qs r no_procedure).body)
 
 -- a statement of procedures is one of one of them
-procedures_from : (x : Sided) (qs : List Procedure) (ss : List Sides) → Among x (sided_procedures qs ss) → OfProcedure x qs ss
+pub procedures_from : (x : Sided) (qs : List Procedure) (ss : List Sides) → Among x (sided_procedures qs ss) → OfProcedure x qs ss
 procedures_from x [] ss m = absurd m
 procedures_from x (q ∷ qs) [] m = absurd m
 procedures_from x (q ∷ qs) (s ∷ ss) m =
@@ -120,7 +121,7 @@ abbrev pub outside : Sides
 outside = record { outer = true; inner = false }
 
 -- a statement of a procedure among all, where the procedures have the sides that calls so deep give
-procedure_at : (p : Tree) (depth r : ℕ) (v : Visit) → r < length p.procedures → Among v (body_visits (slice_index_or p.procedures r no_procedure).body) → Among (placed (side_at p depth r) v) (sided p (procedure_sides p depth))
+pub procedure_at : (p : Tree) (depth r : ℕ) (v : Visit) → r < length p.procedures → Among v (body_visits (slice_index_or p.procedures r no_procedure).body) → Among (placed (side_at p depth r) v) (sided p (procedure_sides p depth))
 procedure_at p depth r v there m =
     let many : length (procedure_sides p depth) ≡ length p.procedures = sides_length p depth in
     among_right
@@ -175,10 +176,6 @@ descends p (suc n) b q there e =
           ap suc long.3,
         ))
         (lower v.0.within b (side_at p (suc n) o.0) (side_at p n o.0) (sym (ap (λ (y : Sided). on_side b y.sides) v.2) ∙ f) (λ d. on d o.0 o.1))
-
--- the sides of a procedure
-abbrev pub sides_of : Tree → ℕ → Sides
-sides_of p q = side_at p (length p.procedures) q
 
 -- a statement of the program's own body among all
 pub main_stands : (p : Tree) (v : Visit) → Among v (body_visits p.body) → Among (placed outside v) (all_sided p)

@@ -5,6 +5,7 @@ use Rattle.sial_syntax.specs.declared.array.ArrayDecl.{ArrayDecl}
 use Rattle.sial_syntax.specs.declared.array.ArrayKind.{ArrayKind}
 use Rattle.sial_syntax.specs.declared.array.ArrayKind.TheVariants.{Static, Temp, Local, Distributed, Served}
 use Rattle.sial_syntax.specs.declared.index.Bound.TheVariants as bound
+use Rattle.sial_syntax.specs.declared.index.IndexDecl.{IndexDecl}
 use Rattle.sial_syntax.specs.declared.index.Kind.{Kind}
 use Rattle.sial_syntax.specs.declared.index.Kind.TheVariants.{Ao, Mo, Moa, Mob, Index}
 use Rattle.sial_syntax.specs.declared.index.Range.{Range}
@@ -57,28 +58,32 @@ abbrev pub range_super : Range → Option ℕ
 range_super (Segments kind lo hi) = None
 range_super (Sub super) = Some super
 
--- the kind of a range of segments
-abbrev pub own_kind : Range → Kind
-own_kind (Segments kind lo hi) = kind
-own_kind (Sub super) = Index
+-- the kind of a range, where those of the indices before it are known; a subindex has that of its super index
+abbrev pub range_kind : List Kind → Range → Kind
+range_kind before (Segments kind lo hi) = kind
+range_kind before (Sub super) = slice_index_or before super Index
 
--- the kind of a range; a subindex has that of its super index
-abbrev pub range_kind : Tree → Range → Kind
-range_kind p (Segments kind lo hi) = kind
-range_kind p (Sub super) = own_kind (range_in p super)
+-- the kinds of indices in order of declaration, behind those that are known
+abbrev pub kinds_after : List Kind → List IndexDecl → List Kind
+kinds_after before [] = before
+kinds_after before (i ∷ is) = kinds_after (before ++ range_kind before i.range ∷ []) is
+
+-- the kind of an index; as each subindex has that of its super index, it has that of the end of its chain
+abbrev pub index_kind : Tree → ℕ → Kind
+index_kind p index = slice_index_or (kinds_after [] p.indices) index Index
 
 -- whether an index is a subindex
 abbrev pub is_sub : Tree → ℕ → Bool
 is_sub p index = is_some (range_super (range_in p index))
 
--- whether something is this number
-abbrev pub is_number : Option ℕ → ℕ → Bool
-is_number None n = false
-is_number (Some m) n = m == n
+-- whether something is this index
+abbrev pub is_this : Option ℕ → ℕ → Bool
+is_this None index = false
+is_this (Some i) index = i == index
 
 -- whether the first is a subindex of the second
 abbrev pub is_sub_of : Tree → (sub index : ℕ) → Bool
-is_sub_of p sub index = is_number (range_super (range_in p sub)) index
+is_sub_of p sub index = is_this (range_super (range_in p sub)) index
 
 -- whether two kinds are one
 abbrev pub is_kind : Kind → Kind → Bool
@@ -96,7 +101,7 @@ same_flag false b = not b
 
 -- whether an index may stand where another is declared: of one kind, and both or neither a subindex
 abbrev pub may_stand_for : Tree → (used declared : ℕ) → Bool
-may_stand_for p used declared = is_kind (range_kind p (range_in p used)) (range_kind p (range_in p declared)) && same_flag (is_sub p used) (is_sub p declared)
+may_stand_for p used declared = is_kind (index_kind p used) (index_kind p declared) && same_flag (is_sub p used) (is_sub p declared)
 
 -- whether the indices at the places that both lists have may stand there
 abbrev pub fits_dims : Tree → (used declared : List ℕ) → Bool

@@ -5,6 +5,7 @@ use Rattle.sial_syntax.specs.declared.array.ArrayKind.TheVariants as array
 use Rattle.sial_syntax.specs.declared.condition.Test.TheVariants as test
 use Rattle.sial_syntax.specs.declared.condition.Value.TheVariants as value
 use Rattle.sial_syntax.specs.declared.index.Bound.TheVariants as bound
+use Rattle.sial_syntax.specs.declared.index.Kind.{Kind}
 use Rattle.sial_syntax.specs.declared.index.Kind.TheVariants as kind
 use Rattle.sial_syntax.specs.declared.index.Range.TheVariants as range
 use Rattle.sial_syntax.specs.declared.operand.Bin.TheVariants as bin
@@ -12,7 +13,7 @@ use Rattle.sial_syntax.specs.declared.operand.Op.TheVariants as op
 use Rattle.sial_syntax.specs.declared.operand.Operand.TheVariants as operand
 use Rattle.sial_syntax.specs.declared.operand.Right.TheVariants.{One, Two}
 use Rattle.sial_syntax.specs.declared.operand.Target.TheVariants as target
-use Rattle.sial_syntax.specs.Tree.{Tree, End, Then, Do, Pardo, Assign, Get, Put}
+use Rattle.sial_syntax.specs.Tree.{Tree, End, Then, Do, DoIn, Pardo, Assign, Get, Put}
 use Rattle.sial_syntax.specs.Shapes.{shape_fault}
 
 -- an index that isn't bound
@@ -68,6 +69,23 @@ sub_of_sub = record {
   scalars = [];
   procedures = [];
   body = End;
+}
+
+-- where only the kinds at the chains' ends tell two subindices of subindices apart, whose declarations stand on later lines
+abbrev pub sub_chain : (other : Kind) → Tree
+sub_chain other = record {
+  name = codes "b";
+  indices =
+      record { name = codes "i"; line = 2; range = range.Segments kind.Mo (bound.Number 1) (bound.Number 2) }
+      ∷ record { name = codes "ii"; line = 3; range = range.Sub 0 }
+      ∷ record { name = codes "jj"; line = 100; range = range.Sub 1 }
+      ∷ record { name = codes "k"; line = 4; range = range.Segments other (bound.Number 1) (bound.Number 2) }
+      ∷ record { name = codes "kk"; line = 5; range = range.Sub 3 }
+      ∷ [];
+  arrays = record { name = codes "t"; line = 6; kind = array.Temp; dims = 4 ∷ [] } ∷ [];
+  scalars = [];
+  procedures = [];
+  body = Then 7 (Do 0 (Then 8 (DoIn 1 0 (Then 9 (DoIn 2 1 (Then 10 (Assign (target.Block (record { array = 0; at = 2 ∷ [] })) op.Set (One (operand.Number 1))) End)) End)) End)) End;
 }
 
 -- a subindex in a static array
@@ -187,6 +205,8 @@ pub record ShapeFaultsFound : Type 0 where
   pub repeated : shape_fault repeated ≡ Some (record { line = 5; rule = 3 })
   pub wrong_kind : shape_fault wrong_kind ≡ Some (record { line = 6; rule = 4 })
   pub sub_of_sub : shape_fault sub_of_sub ≡ Some (record { line = 4; rule = 4 })
+  pub chain_of_one_kind : shape_fault (sub_chain kind.Mo) ≡ Some (record { line = 100; rule = 4 })
+  pub chain_of_other_kinds : shape_fault (sub_chain kind.Ao) ≡ Some (record { line = 10; rule = 4 })
   pub sub_in_static : shape_fault sub_in_static ≡ Some (record { line = 4; rule = 4 })
   pub scalar_where : shape_fault scalar_where ≡ Some (record { line = 4; rule = 4 })
   pub get_static : shape_fault get_static ≡ Some (record { line = 5; rule = 4 })

@@ -14,5 +14,7 @@ pub mod SideRules
 pub mod Widths
 pub mod Resolved
 pub mod BoxLaws
+pub mod KindLaws
+pub mod CallLaws
 pub mod FaultyShapes
 pub mod FaultySides

@@ -1,6 +1,18 @@
 -- The limits of a program.
 use Rattle.std.specs.Prelude.{ℕ, ◌^◌}
 
+-- what a number is below: literals, bounds of ranges, constants, elements and scalars
+abbrev pub past_numbers : ℕ
+past_numbers = 2 ^ 64
+
+-- what the number of a text line is below
+abbrev pub past_lines : ℕ
+past_lines = 2 ^ 32
+
+-- constants of an input
+abbrev pub most_constants : ℕ
+most_constants = 256
+
 -- statements of a program
 abbrev pub most_statements : ℕ
 most_statements = 65535

@@ -34,9 +34,13 @@ abbrev pub begins_with_letter : List ℕ → Bool
 begins_with_letter [] = false
 begins_with_letter (b ∷ bs) = is_letter b
 
--- whether bytes are a name: a letter, then letters, digits and `_`, not too many, and no reserved word
+-- whether bytes have the form of a name: a letter, then letters, digits and `_`, not too many
+abbrev pub has_name_form : List ℕ → Bool
+has_name_form name = begins_with_letter name && (list_all is_name_byte name && nat_le (length name) most_name)
+
+-- whether bytes are a name: they have its form, and are no reserved word
 abbrev pub is_name : List ℕ → Bool
-is_name name = begins_with_letter name && (list_all is_name_byte name && (nat_le (length name) most_name && not (is_reserved name)))
+is_name name = has_name_form name && not (is_reserved name)
 
 -- whether a byte stands in printed texts
 abbrev pub is_text_byte : ℕ → Bool

@@ -31,6 +31,12 @@ operand_scalar (Number n) = []
 operand_scalar (Scalar s) = s ∷ []
 operand_scalar (Block b) = []
 
+-- the number that an operand is
+abbrev pub operand_number : Operand → List ℕ
+operand_number (Number n) = n ∷ []
+operand_number (Scalar s) = []
+operand_number (Block b) = []
+
 -- the block that a target is
 abbrev pub target_block : Target → List BlockRef
 target_block (target.Scalar s) = []
@@ -81,6 +87,12 @@ value_index (value.Number n) = []
 value_index (value.Scalar s) = []
 value_index (value.Index i) = i ∷ []
 
+-- the number that a value is
+abbrev pub value_number : Value → List ℕ
+value_number (value.Number n) = n ∷ []
+value_number (value.Scalar s) = []
+value_number (value.Index i) = []
+
 -- the scalar that a value is
 abbrev pub value_scalar : Value → List ℕ
 value_scalar (value.Number n) = []
@@ -91,9 +103,18 @@ value_scalar (value.Index i) = []
 abbrev pub condition_indices : Cond → List ℕ
 condition_indices test = value_index test.left ++ value_index test.right
 
+-- the numbers of a condition
+abbrev pub condition_numbers : Cond → List ℕ
+condition_numbers test = value_number test.left ++ value_number test.right
+
 -- the scalars of a condition
 abbrev pub condition_scalars : Cond → List ℕ
 condition_scalars test = value_scalar test.left ++ value_scalar test.right
+
+-- the numbers that a statement writes out; those of its body aren't its own
+abbrev pub numbers_named : Plain → List ℕ
+numbers_named (Assign target op right) = flat_map operand_number (operands right)
+numbers_named form = flat_map condition_numbers (conditions form)
 
 -- the indices that a statement uses and that must be bound where it stands, those that it binds itself in its conditions among them
 abbrev pub indices_used : Plain → List ℕ

@@ -1,4 +1,4 @@
--- Proper trees: within the limits, with names that are names and numbers of things that are there.
+-- Proper trees: within the limits, with names that are names, numbers below 2^64 and numbers of things that are there.
 use Rattle.std.specs.Prelude.{ℕ, ◌+◌, List, Bool, true, false, ◌&&◌, nat_le, nat_lt, length, max, sum_by, ◌≤◌, IsTrue}
 use Rattle.std.specs.List.{list_all, enumerate_from}
 use Rattle.sial_syntax.specs.declared.access.Access.{Access}
@@ -21,10 +21,12 @@ use Rattle.sial_syntax.specs.declared.operand.Slot.{Slot}
 use Rattle.sial_syntax.specs.declared.operand.Slot.TheVariants.{At, All}
 use Rattle.sial_syntax.specs.declared.operand.Target.{Target}
 use Rattle.sial_syntax.specs.declared.operand.Target.TheVariants as target
-use Rattle.sial_syntax.specs.Limits.{most_statements, most_names, most_nesting, most_rank, most_pardo}
+use Rattle.sial_syntax.specs.Limits.{past_numbers, past_lines, most_statements, most_names, most_nesting, most_rank, most_pardo}
 use Rattle.sial_syntax.specs.Names.{is_name, is_text}
 use Rattle.sial_syntax.specs.Numbering.{statements}
+use Rattle.sial_syntax.specs.Parts.{numbers_named}
 use Rattle.sial_syntax.specs.Tree.{Tree, Procedure, Block, End, Then, Plain, Do, DoIn, Pardo, If, IfElse, Call, Assign, Get, Request, Put, Prepare, Create, Delete, Allocate, Deallocate, Collective, SipBarrier, ServerBarrier, Print, PrintScalar, Integrals}
+use Rattle.sial_syntax.specs.Visits.{Visit, all_visits}
 
 -- whether a tree has an index of this number
 abbrev pub has_index : Tree → ℕ → Bool
@@ -133,9 +135,21 @@ abbrev mutual
   body_nesting End = 0
   body_nesting (Then line form rest) = max (nesting form) (body_nesting rest)
 
--- whether a bound names a constant properly
+-- whether something is a number: below 2^64
+abbrev pub is_number : ℕ → Bool
+is_number n = nat_lt n past_numbers
+
+-- whether something is the number of a text line: below 2^32
+abbrev pub is_line : ℕ → Bool
+is_line line = nat_lt line past_lines
+
+-- whether the line of a statement is one, and the numbers that it writes out are numbers
+abbrev pub proper_numbers : Visit → Bool
+proper_numbers v = is_line v.line && list_all is_number (numbers_named v.form)
+
+-- whether a bound is a number, or names a constant properly
 abbrev pub proper_bound : Bound → Bool
-proper_bound (Number n) = true
+proper_bound (Number n) = is_number n
 proper_bound (Named name) = is_name name
 
 -- whether an index's range is proper; a subindex's super index stands before it
@@ -145,11 +159,11 @@ proper_range place (Sub super) = nat_lt super place
 
 -- whether a declared index is proper at its place
 abbrev pub proper_index : ℕ × IndexDecl → Bool
-proper_index x = is_name x.1.name && proper_range x.0 x.1.range
+proper_index x = is_name x.1.name && (is_line x.1.line && proper_range x.0 x.1.range)
 
 -- whether a declared array is proper
 abbrev pub proper_array : Tree → ArrayDecl → Bool
-proper_array p array = is_name array.name && (has_length most_rank array.dims && list_all (has_index p) array.dims)
+proper_array p array = is_name array.name && (is_line array.line && (has_length most_rank array.dims && list_all (has_index p) array.dims))
 
 -- whether a body is proper and not too deep
 abbrev pub proper_depth : Tree → Block → Bool
@@ -171,6 +185,7 @@ pub record IsProper (p : Tree) : Type 0 where
   pub scalars : IsTrue (list_all is_name p.scalars)
   pub procedures : IsTrue (list_all (proper_procedure p) p.procedures)
   pub body : IsTrue (proper_depth p p.body)
+  pub numbers : IsTrue (list_all proper_numbers (all_visits p))
   pub few_indices : length p.indices ≤ most_names
   pub few_arrays : length p.arrays ≤ most_names
   pub few_scalars : length p.scalars ≤ most_names

@@ -1,6 +1,6 @@
 -- The spaces of a program: every index runs over its declared range, and arrays, blocks and pardos fit what the input gives.
-use Rattle.std.specs.Prelude.{◌≡◌, ℕ, ◌+◌, ◌-◌, List, [], ◌∷◌, map, length, Bool, true, false, ◌==◌, ◌&&◌, ◌||◌, nat_lt, nat_le, if◌then◌else◌, Option, Some, None, option_map, find, IsTrue}
-use Rattle.std.specs.List.{list_all}
+use Rattle.std.specs.Prelude.{◌≡◌, ℕ, ◌+◌, ◌-◌, List, [], ◌∷◌, map, length, Bool, true, false, ◌==◌, ◌&&◌, ◌||◌, not, nat_lt, nat_le, if◌then◌else◌, Option, Some, None, option_map, find, IsTrue}
+use Rattle.std.specs.List.{list_all, list_any}
 use Rattle.sial_syntax.specs.declared.array.ArrayDecl.{ArrayDecl}
 use Rattle.sial_syntax.specs.declared.array.ArrayKind.{ArrayKind}
 use Rattle.sial_syntax.specs.declared.array.ArrayKind.TheVariants.{Static, Temp, Local, Distributed, Served}
@@ -15,8 +15,10 @@ use Rattle.sial_syntax.specs.declared.operand.Slot.{Slot}
 use Rattle.sial_syntax.specs.declared.operand.Slot.TheVariants.{At, All}
 use Rattle.sial_syntax.specs.Agreeing.{same_list, array_in}
 use Rattle.sial_syntax.specs.Boxes.{volume}
-use Rattle.sial_syntax.specs.Limits.{most_segments, most_length, most_words, most_blocks, most_together, most_box}
+use Rattle.sial_syntax.specs.Limits.{most_constants, most_segments, most_length, most_words, most_blocks, most_together, most_box}
+use Rattle.sial_syntax.specs.Names.{has_name_form}
 use Rattle.sial_syntax.specs.Parts.{blocks_named, slots_named, slotted_array}
+use Rattle.sial_syntax.specs.Proper.{is_number}
 use Rattle.sial_syntax.specs.Spaces.{Spaces, Cut, Span, Segments, Pieces, span_of, kind_of, cut_of, segments_of, first_of, count_of, box_of, blocks_of, blocks_together, same_kind}
 use Rattle.sial_syntax.specs.Tree.{Tree, Plain, Pardo}
 use Rattle.sial_syntax.specs.Visits.{Visit, all_visits}
@@ -25,6 +27,21 @@ use Rattle.sial_syntax.specs.Widths.{widest_block}
 -- the constants that an input gives: names with their numbers
 abbrev pub Constants : Type 0
 Constants = List (List ℕ × ℕ)
+
+-- whether the name of a constant is given again
+abbrev pub is_given_again : List ℕ → Constants → Bool
+is_given_again name constants = list_any (λ (c : List ℕ × ℕ). same_list c.0 name) constants
+
+-- whether no constant is given twice
+abbrev pub are_given_once : Constants → Bool
+are_given_once [] = true
+are_given_once (c ∷ cs) = not (is_given_again c.0 cs) && are_given_once cs
+
+-- whether these are constants that an input may give: not too many, each name once, and numbers
+abbrev pub may_be_constants : Constants → Bool
+may_be_constants constants =
+    nat_le (length constants) most_constants
+    && (are_given_once constants && list_all (λ (c : List ℕ × ℕ). has_name_form c.0 && is_number c.1) constants)
 
 -- the number of a constant, none where the input doesn't give it
 abbrev pub constant_of : Constants → (name : List ℕ) → Option ℕ
@@ -134,6 +151,7 @@ has_small_box spaces _ = true
 
 -- spaces that a program has by these constants
 pub record AreSpacesBy (constants : Constants) (p : Tree) (spaces : Spaces) : Type 0 where
+  pub given : IsTrue (may_be_constants constants)
   pub cuts : IsTrue (list_all is_cut (spaces.ao ∷ spaces.mo ∷ spaces.moa ∷ spaces.mob ∷ []))
   pub spans : map Some spaces.spans ≡ map (λ (i : IndexDecl). span_of_range constants i.range) p.indices
   pub segments : IsTrue (list_all (λ (i : IndexDecl). has_segments constants spaces i.range) p.indices)

@@ -163,9 +163,13 @@ abbrev pub depth_of : Tree → (most procedure : ℕ) → ℕ
 depth_of p zero procedure = 0
 depth_of p (suc most) procedure = 1 + fold max 0 (map (depth_of p most) (calls_of p procedure))
 
+-- how deep a procedure calls, itself counted; without recursion calls go no deeper than there are procedures
+abbrev pub procedure_depth : Tree → (procedure : ℕ) → ℕ
+procedure_depth p procedure = depth_of p (length p.procedures + 1) procedure
+
 -- CallTooDeep: a call of a procedure that is too deep
 abbrev pub breaks_depth : Tree → Sided → Bool
-breaks_depth p s = list_any (λ q. nat_lt most_depth (depth_of p (length p.procedures + 1) q)) (called_by s.form)
+breaks_depth p s = list_any (λ q. nat_lt most_depth (procedure_depth p q)) (called_by s.form)
 
 -- a rule, broken at the lines of these statements
 abbrev pub side_broken : (rule : ℕ) → (Sided → Bool) → List Sided → List Fault

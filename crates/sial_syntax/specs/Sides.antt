@@ -1,5 +1,5 @@
 -- On which side of the pardos statements stand, and the classes of scalars and local arrays.
-use Rattle.std.specs.Prelude.{ℕ, zero, suc, List, [], ◌∷◌, ◌++◌, map, filter, length, Bool, true, false, ◌&&◌, ◌||◌, not, replicate, if◌then◌else◌, fold}
+use Rattle.std.specs.Prelude.{ℕ, zero, suc, List, [], ◌∷◌, ◌++◌, map, filter, length, Bool, true, false, ◌&&◌, ◌||◌, not, replicate, if◌then◌else◌, fold, slice_index_or}
 use Rattle.std.specs.List.{list_any, enumerate_from}
 use Rattle.sial_syntax.specs.declared.array.ArrayKind.TheVariants.{Local}
 use Rattle.sial_syntax.specs.declared.classes.ScalarClass.{ScalarClass}
@@ -64,6 +64,10 @@ sides_given calls procedure = fold either_side no_side (map (λ (s : Sided). s.s
 abbrev pub procedure_sides : Tree → (depth : ℕ) → List Sides
 procedure_sides p zero = replicate (length p.procedures) no_side
 procedure_sides p (suc depth) = map (λ (q : ℕ × Procedure). sides_given (sided p (procedure_sides p depth)) q.0) (enumerate_from 0 p.procedures)
+
+-- the sides of a procedure
+abbrev pub sides_of : Tree → (procedure : ℕ) → Sides
+sides_of p procedure = slice_index_or (procedure_sides p (length p.procedures)) procedure no_side
 
 -- all statements with their sides; a chain of calls that repeats no procedure has at most as many calls as there are procedures
 abbrev pub all_sided : Tree → List Sided

@@ -1,5 +1,5 @@
 -- What indices run over: segments of their kind, pieces of segments, and the blocks of arrays.
-use Rattle.std.specs.Prelude.{ℕ, ◌+◌, ◌-◌, ◌*◌, ◌/◌, min, List, [], ◌∷◌, map, take, sum, sum_by, length, Bool, true, false, slice_index_or, filter}
+use Rattle.std.specs.Prelude.{ℕ, zero, suc, ◌+◌, ◌-◌, ◌*◌, ◌/◌, min, List, [], ◌∷◌, map, take, sum, sum_by, length, Bool, true, false, slice_index_or, filter}
 use Rattle.sial_syntax.specs.declared.index.Kind.{Kind}
 use Rattle.sial_syntax.specs.declared.index.Kind.TheVariants.{Ao, Mo, Moa, Mob, Index}
 use Rattle.sial_syntax.specs.declared.array.ArrayDecl.{ArrayDecl}
@@ -84,9 +84,14 @@ segments_of spaces Moa = length spaces.moa.segments
 segments_of spaces Mob = length spaces.mob.segments
 segments_of spaces Index = 4096
 
+-- the length of a segment among such lengths, numbered from 1; number 0 stands for no segment, which has no length
+abbrev pub length_among : List ℕ → ℕ → ℕ
+length_among lengths zero = 0
+length_among lengths (suc before) = slice_index_or lengths before 0
+
 -- a segment among such lengths, numbered from 1: it begins behind those before it
 abbrev pub among : List ℕ → ℕ → Extent
-among lengths number = record { start = 1 + sum (take (number - 1) lengths); len = slice_index_or lengths (number - 1) 0 }
+among lengths number = record { start = 1 + sum (take (number - 1) lengths); len = length_among lengths number }
 
 -- a segment of a kind, numbered from 1
 abbrev pub segment : Spaces → Kind → ℕ → Extent
@@ -94,15 +99,20 @@ segment spaces Ao number = among spaces.ao.segments number
 segment spaces Mo number = among spaces.mo.segments number
 segment spaces Moa number = among spaces.moa.segments number
 segment spaces Mob number = among spaces.mob.segments number
-segment spaces Index number = record { start = number; len = 1 }
+segment spaces Index number = record { start = number; len = min 1 number }
 
 -- how many pieces of this length a segment has, the last one shorter where need be
 abbrev pub pieces_in : Extent → ℕ → ℕ
 pieces_in whole piece = (whole.len + (piece - 1)) / piece
 
+-- the length of a piece of a segment, numbered from 1; number 0 stands for no piece, which has no length
+abbrev pub length_of_piece : Extent → ℕ → ℕ → ℕ
+length_of_piece whole piece zero = 0
+length_of_piece whole piece (suc before) = min piece (whole.len - before * piece)
+
 -- a piece of a segment, numbered from 1
 abbrev pub piece_at : Extent → ℕ → ℕ → Extent
-piece_at whole piece number = record { start = whole.start + (number - 1) * piece; len = min piece (whole.len - (number - 1) * piece) }
+piece_at whole piece number = record { start = whole.start + (number - 1) * piece; len = length_of_piece whole piece number }
 
 -- how many pieces a subindex has in a segment of its super index
 abbrev pub pieces_of : Spaces → (sub segment : ℕ) → ℕ

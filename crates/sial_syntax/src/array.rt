@@ -4,7 +4,7 @@ use crate::text::Text;
 use crate::tuple::Tuple;
 
 /// Where an array's blocks live, and for how long.
-#[derive(Clone, Copy, Debug, PartialEq, Eq)]
+#[derive(Clone, Copy, PartialEq, Eq)]
 pub enum ArrayKind {
     /// Every worker has all blocks, from the beginning on.
     Static,
@@ -19,7 +19,7 @@ pub enum ArrayKind {
 }
 
 /// An array with one declared index for each dimension.
-#[derive(Clone, Debug, PartialEq, Eq, Drop)]
+#[derive(PartialEq, Drop)]
 pub struct ArrayDecl {
     pub name: Text,
     /// The text line of the declaration, counted from 1.

@@ -1,7 +1,7 @@
 //! What the side rules find out about scalars and local arrays.
 
 /// How the workers' copies of a scalar relate.
-#[derive(Clone, Copy, Debug, PartialEq, Eq)]
+#[derive(Clone, Copy, PartialEq, Eq)]
 pub enum ScalarClass {
     /// All workers have the same number.
     Replicated,
@@ -12,7 +12,7 @@ pub enum ScalarClass {
 }
 
 /// On which side of the pardos an array is used.
-#[derive(Clone, Copy, Debug, PartialEq, Eq)]
+#[derive(Clone, Copy, PartialEq, Eq)]
 pub enum Side {
     /// Outside every pardo.
     Outer,
@@ -23,7 +23,7 @@ pub enum Side {
 }
 
 /// One class for each scalar and one side for each array, in order of declaration.
-#[derive(Clone, Debug, PartialEq, Eq, Drop)]
+#[derive(PartialEq, Drop)]
 pub struct Classes {
     pub scalars: Vec<ScalarClass>,
     pub locals: Vec<Side>,

@@ -1,7 +1,7 @@
 //! Conditions of `if` and `where`.
 
 /// One side of a comparison.
-#[derive(Clone, Copy, Debug, PartialEq, Eq)]
+#[derive(Clone, Copy, PartialEq, Eq)]
 pub enum Value {
     Number(u64),
     Scalar(u16),
@@ -10,7 +10,7 @@ pub enum Value {
 }
 
 /// A comparison of unsigned numbers.
-#[derive(Clone, Copy, Debug, PartialEq, Eq)]
+#[derive(Clone, Copy, PartialEq, Eq)]
 pub enum Test {
     Less,
     LessEqual,
@@ -21,7 +21,7 @@ pub enum Test {
 }
 
 /// Two values and how they are compared.
-#[derive(Clone, Copy, Debug, PartialEq, Eq)]
+#[derive(Clone, Copy, PartialEq, Eq)]
 pub struct Cond {
     pub left: Value,
     pub test: Test,

@@ -3,7 +3,7 @@
 use crate::text::Text;
 
 /// What an index counts: orbitals of one of four kinds, or plain numbers.
-#[derive(Clone, Copy, Debug, PartialEq, Eq)]
+#[derive(Clone, Copy, PartialEq, Eq)]
 pub enum Kind {
     Ao,
     Mo,
@@ -14,14 +14,14 @@ pub enum Kind {
 }
 
 /// An end of a range: a number, or a constant that the input gives.
-#[derive(Clone, Debug, PartialEq, Eq, Drop)]
+#[derive(PartialEq, Drop)]
 pub enum Bound {
     Number(u64),
     Named(Text),
 }
 
 /// The segments of an index, or the index whose segments a subindex cuts.
-#[derive(Clone, Debug, PartialEq, Eq, Drop)]
+#[derive(PartialEq, Drop)]
 pub enum Range {
     /// Segments `lo` to `hi`, counted from 1; none where `hi` is below `lo`.
     Segments { kind: Kind, lo: Bound, hi: Bound },
@@ -30,7 +30,7 @@ pub enum Range {
 }
 
 /// An index and what it runs over.
-#[derive(Clone, Debug, PartialEq, Eq, Drop)]
+#[derive(PartialEq, Drop)]
 pub struct IndexDecl {
     pub name: Text,
     /// The text line of the declaration, counted from 1.

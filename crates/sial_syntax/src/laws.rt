@@ -1,8 +1,10 @@
 //! What the definitions of boxes and of faults say: laws that proofs above cite, with nothing to run.
 
 ghost use Rattle.sial_syntax.specs.BoxLaws.{NumbersOfRank, NumbersWithin, PlaceOfTuple, PlaceWithin, RankOfNumbers, RankWithin, TupleOfPlace, TuplesCounted, TuplesInOrder, TupleWithin};
+ghost use Rattle.sial_syntax.specs.CallLaws.{DepthByCalls, InnerByCalls, OuterByCalls, ReachedByChains};
 ghost use Rattle.sial_syntax.specs.FaultyShapes.{ShapeFaultsFound};
 ghost use Rattle.sial_syntax.specs.FaultySides.{SideFaultsFound};
+ghost use Rattle.sial_syntax.specs.KindLaws.{KindOfSegments, KindOfSubindex};
 
 /// The place of a tuple in its box, and the tuple at a place.
 pub fn places_and_tuples()
@@ -24,6 +26,20 @@ pub fn ranks_and_numbers()
     ensures numbers { NumbersOfRank }
     ensures rank_within { RankWithin }
     ensures numbers_within { NumbersWithin }
+{}
+
+/// The kind of an index is its range's, and a subindex has that of its super index, so that of the end of its chain.
+pub fn kinds_of_indices()
+    ensures segments { KindOfSegments }
+    ensures subindex { KindOfSubindex }
+{}
+
+/// Where chains of calls lead, how deep they go, and which sides they give.
+pub fn chains_of_calls()
+    ensures reached { ReachedByChains }
+    ensures depth { DepthByCalls }
+    ensures outer { OuterByCalls }
+    ensures inner { InnerByCalls }
 {}
 
 /// Programs with one fault each: where it is found, and as which.

@@ -10,8 +10,6 @@ pub mod laws;
 mod operand;
 mod program;
 mod statement;
-#[cfg(test)]
-mod tests;
 mod text;
 mod tuple;
 

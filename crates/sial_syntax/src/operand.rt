@@ -3,21 +3,21 @@
 use crate::tuple::Tuple;
 
 /// A block: an array, and an index for each of its dimensions.
-#[derive(Clone, Debug, PartialEq, Eq, Drop)]
+#[derive(PartialEq, Drop)]
 pub struct BlockRef {
     pub array: u16,
     pub at: Tuple,
 }
 
 /// What an assignment writes.
-#[derive(Clone, Debug, PartialEq, Eq, Drop)]
+#[derive(PartialEq, Drop)]
 pub enum Target {
     Scalar(u16),
     Block(BlockRef),
 }
 
 /// How an assignment combines its target's old value with the right side.
-#[derive(Clone, Copy, Debug, PartialEq, Eq)]
+#[derive(Clone, Copy, PartialEq, Eq)]
 pub enum Op {
     /// `=`
     Set,
@@ -30,7 +30,7 @@ pub enum Op {
 }
 
 /// What stands between two operands.
-#[derive(Clone, Copy, Debug, PartialEq, Eq)]
+#[derive(Clone, Copy, PartialEq, Eq)]
 pub enum Bin {
     /// `+`
     Plus,
@@ -43,7 +43,7 @@ pub enum Bin {
 }
 
 /// A number, a scalar or a block.
-#[derive(Clone, Debug, PartialEq, Eq, Drop)]
+#[derive(PartialEq, Drop)]
 pub enum Operand {
     Number(u64),
     Scalar(u16),
@@ -51,14 +51,14 @@ pub enum Operand {
 }
 
 /// One operand, or two.
-#[derive(Clone, Debug, PartialEq, Eq, Drop)]
+#[derive(PartialEq, Drop)]
 pub enum Right {
     One(Operand),
     Two(Operand, Bin, Operand),
 }
 
 /// A dimension of `allocate`: the segment that an index has, or all of them.
-#[derive(Clone, Copy, Debug, PartialEq, Eq)]
+#[derive(Clone, Copy, PartialEq, Eq)]
 pub enum Slot {
     At(u16),
     All,

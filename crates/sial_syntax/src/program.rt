@@ -6,14 +6,14 @@ use crate::statement::Stmt;
 use crate::text::Text;
 
 /// A procedure: no arguments, and no index bound where it begins.
-#[derive(Clone, Debug, PartialEq, Eq, Drop)]
+#[derive(PartialEq, Drop)]
 pub struct Proc {
     pub name: Text,
     pub body: Vec<Stmt>,
 }
 
 /// A program; indices, arrays, scalars and procedures are numbered from 0 in order of declaration.
-#[derive(Clone, Debug, PartialEq, Eq, Drop)]
+#[derive(PartialEq, Drop)]
 pub struct Program {
     pub name: Text,
     pub indices: Vec<IndexDecl>,

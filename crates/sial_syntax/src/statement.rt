@@ -6,7 +6,7 @@ use crate::operand::{BlockRef, Op, Right, Slot, Target};
 use crate::text::Text;
 
 /// A statement with the text line of its first token, counted from 1.
-#[derive(Clone, Debug, PartialEq, Eq, Drop)]
+#[derive(PartialEq, Drop)]
 #[cycle(tree)]
 pub struct Stmt {
     pub line: u32,
@@ -14,7 +14,7 @@ pub struct Stmt {
 }
 
 /// What a statement says; numbers are those of indices, arrays, scalars and procedures.
-#[derive(Clone, Debug, PartialEq, Eq, Drop)]
+#[derive(PartialEq, Drop)]
 #[cycle(tree)]
 pub enum Form {
     /// `do i`

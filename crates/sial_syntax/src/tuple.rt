@@ -10,7 +10,7 @@ use std::alloc::{AllocError, Global};
 use std::marker::Model;
 
 /// At most six index numbers need no memory of their own; contracts see their list.
-#[derive(Clone, Debug, Drop)]
+#[derive(Clone, Drop)]
 pub struct Tuple {
     numbers: SmallVec<u16, 6>,
 }

@@ -2,7 +2,7 @@
 use Rattle.std.proofs.Common.{◌≡◌, ℕ, List, [], ◌∷◌, ◌++◌, Bool, true, false, cond, not, ◌&&◌, ◌||◌, ◌==◌, filter, codes, append_assoc, refl, ap, ◌∙◌, sym, subst}
 use Rattle.std.specs.List.{slice_split, onto_first, list_all}
 use Rattle.std.proofs.lemmas.List.Splits.{slice_split-cons_yes, slice_split-cons_no}
-use Rattle.sial_syntax.specs.Names.{is_name, is_name_byte, is_digit, is_letter}
+use Rattle.sial_syntax.specs.Names.{is_name, has_name_form, is_reserved, is_name_byte, is_digit, is_letter}
 use Rattle.sip_driver.specs.Lines.{Line, Head, Index, Array, Scalar, Loop, LoopEnd, Fill, AddBlock, SetScalar, AddNumber, Contract, Print, Tail, spelled, is_sound, is_numeral, block_text, has_any}
 use Rattle.sip_driver.specs.Reading.{parts_words, words_in, marks_in}
 use Rattle.sip_driver.proofs.SoundLemmas.{first_of_two, last_of_two, second}
@@ -54,7 +54,7 @@ mark : (c : ℕ) (rest marks : List ℕ) (words : List (List ℕ)) → parts_wor
 mark c rest marks words p cut = then [] c rest marks words refl p cut
 
 name_word : (w : List ℕ) → is_name w ≡ true → IsWord w
-name_word w e = second _ (list_all is_name_byte w) _ e
+name_word w e = second _ (list_all is_name_byte w) _ (first_of_two (has_name_form w) (not (is_reserved w)) e)
 
 or_true : (a c : Bool) → (a || (true || c)) ≡ true
 or_true true c = refl

@@ -1,5 +1,0 @@
-use Rattle.sial_meaning.proofs.WorkedRulesAre.{part-is-refused, small-is-proper}
-use Rattle.sial_meaning.proofs.programs.worked_rules.Goals as goal
-
-pub returns : goal.returns
-returns c = record { part = part-is-refused; small = small-is-proper }

@@ -1,0 +1,6 @@
+mod SoundLemmas
+mod ProgramsRun
+mod FeaturesRun
+mod RulesAre
+mod EpochsAre
+mod CostsAre

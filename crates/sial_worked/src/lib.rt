@@ -1,0 +1,5 @@
+//! Worked programs with their text, run by the definitions.
+#![tactic(auto)]
+
+pub mod features;
+pub mod programs;
