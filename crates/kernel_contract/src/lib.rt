@@ -9,8 +9,6 @@ mod packing;
 mod run;
 mod splits;
 mod storing;
-#[cfg(test)]
-mod tests;
 mod tile_sums;
 mod tiled;
 mod tiles;
