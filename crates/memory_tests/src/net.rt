@@ -1,7 +1,7 @@
 //! The order of the messages, by an example, and how a net ends.
 
-use transfer_net::Net;
 use std::test::Fail;
+use transfer_net::Net;
 
 // A message that has to be delivered.
 struct Parcel(u8);

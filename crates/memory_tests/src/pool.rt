@@ -1,9 +1,8 @@
 //! What only a run shows: openings with memory, and words at their places.
 
+use crate::worker::{Worker, close, deliver, end_blocks, take_at, words_of, words_sent, work};
 use block_pool::{How, Pool, copy_between, copy_front};
 use std::test::Fail;
-
-use crate::worker::{Worker, close, deliver, end_blocks, take_at, words_of, words_sent, work};
 
 #[test]
 fn a_sending_slot_keeps_its_words_while_all_others_come_and_go(
@@ -63,13 +62,15 @@ fn a_put_is_delivered_to_a_home_in_the_same_pool(rt: HostRuntime) -> Result<(), 
     work(&mut worker, &home, &mut pool);
     assert_eq!(rt; pool.free(), 0);
     assert!(rt; words_of(&pool, &home, 0) == Some([0, 0].as_slice()));
-    deliver(&worker, &home, &mut pool, 0, 2, How::Add);
+    deliver(&worker, &home, &mut pool, 0, 1, How::Greatest);
     deliver(&worker, &home, &mut pool, 0, 1, How::Add);
-    assert!(rt; words_of(&pool, &home, 0) == Some([14, 7].as_slice()));
+    assert!(rt; words_of(&pool, &home, 0) == Some([14, 0].as_slice()));
     deliver(&worker, &home, &mut pool, 0, 2, How::Greatest);
     assert!(rt; words_of(&pool, &home, 0) == Some([14, 7].as_slice()));
     deliver(&worker, &home, &mut pool, 0, 1, How::Set);
     assert!(rt; words_of(&pool, &home, 0) == Some([7, 7].as_slice()));
+    deliver(&worker, &home, &mut pool, 0, 2, How::Add);
+    assert!(rt; words_of(&pool, &home, 0) == Some([14, 14].as_slice()));
     close(worker, &mut pool);
     assert_eq!(rt; pool.free(), 3);
     end_blocks(&mut pool, home);
