@@ -2,10 +2,13 @@
 #![tactic(auto)]
 
 mod axis;
+mod by_panels;
+mod contracting;
 mod fronts;
 pub mod laws;
 mod order;
 mod packing;
+mod panel;
 mod run;
 mod splits;
 mod storing;
@@ -15,7 +18,7 @@ mod tiles;
 mod walk;
 
 pub use axis::Axis;
+pub use contracting::contract;
 pub use order::is_by_rows;
 pub use splits::contract_any;
-pub use tiled::contract;
 pub use tiles::{tile, tile_any};

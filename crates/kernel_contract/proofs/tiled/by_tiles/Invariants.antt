@@ -2,7 +2,7 @@ use Rattle.std.proofs.Common.{◌-◌, ◌≤◌}
 use Rattle.kernel_contract.specs.Parts.{Replaced}
 use Rattle.kernel_contract.specs.Walks.{Stands, count, gone}
 use Rattle.kernel_contract.proofs.ContractionLemmas.{target_at, value_at}
-use Rattle.kernel_contract.proofs.tiled.contract.Given as goal
+use Rattle.kernel_contract.proofs.tiled.by_tiles.Given as goal
 
 abbrev pub invariant-loop-rows : goal.invariant-loop-rows
 invariant-loop-rows g l = record {

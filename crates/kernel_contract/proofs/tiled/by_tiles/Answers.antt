@@ -2,7 +2,7 @@ use Rattle.std.proofs.Common.{◌≡◌, ℕ, ◌<◌, arith, refl, get_or, leng
 use Rattle.kernel_contract.specs.Parts.{Replaced}
 use Rattle.kernel_contract.specs.Walks.{count, gone}
 use Rattle.kernel_contract.proofs.ContractionLemmas.{AreTargets-further, Contracted-Replaced, Reaches-b, Reaches-further, Replaced-further, target_at, value_at}
-use Rattle.kernel_contract.proofs.tiled.contract.Goals as goal
+use Rattle.kernel_contract.proofs.tiled.by_tiles.Goals as goal
 
 pub across-requires : goal.across-requires
 across-requires g c =
