@@ -6,6 +6,3 @@ mod found;
 
 pub use cache::Cache;
 pub use found::Found;
-
-#[cfg(test)]
-mod tests;

@@ -3,8 +3,6 @@
 
 mod pairs;
 mod sums;
-#[cfg(test)]
-mod tests;
 mod uniform;
 
 pub use pairs::{add, greatest, subtract};

@@ -20,6 +20,3 @@ pub use lifted::Lifted;
 pub use out_of_memory::OutOfMemory;
 pub use pool::Pool;
 pub use state::State;
-
-#[cfg(test)]
-mod tests;

@@ -6,6 +6,3 @@ mod store;
 
 pub use memory_store::MemoryStore;
 pub use store::Store;
-
-#[cfg(test)]
-mod tests;

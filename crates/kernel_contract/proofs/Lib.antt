@@ -1,7 +1,11 @@
+pub mod ColumnLemmas
 pub mod ContractionLemmas
 mod Examples
+pub mod FilledLemmas
+pub mod FurtherLemmas
 pub mod Numbers
 pub mod OrderLemmas
+pub mod PanelLemmas
 pub mod PartLemmas
 pub mod PlaceLemmas
 pub mod Products

@@ -1,7 +1,7 @@
 -- Offsets in the sources modulo 2^64, and sums over shared places as far as a walk has come.
 use Rattle.std.proofs.Common.{◌≡◌, ℕ, ◌+◌, ◌*◌, ◌%◌, ◌^◌, ◌<◌, ◌≤◌, ◌⊎◌, inl, inr, subst, List, [], ◌∷◌, get_or, ap, sym, ◌∙◌, arith, add_comm}
 use Rattle.std.proofs.Math.Nat.{add-mod-mod, mod-add-mod}
-use Rattle.kernel_contract.specs.Parts.{Reaches, sum_from}
+use Rattle.kernel_contract.specs.Parts.{Reaches, sum_from, term_at}
 use Rattle.kernel_contract.specs.Places.{IsPlace, offset_a, offset_b, sum_over}
 use Rattle.kernel_contract.specs.Product.{entry, row_by}
 use Rattle.kernel_contract.specs.Sum.{sum_to}
@@ -9,11 +9,6 @@ use Rattle.kernel_contract.specs.Walks.{count, place_at}
 use Rattle.kernel_contract.specs.declared.axis.Axis.{Axis}
 use Rattle.kernel_contract.proofs.PlaceLemmas.{IsPlace-place_at}
 use Rattle.kernel_contract.proofs.Sums.{sum_to-cong}
-
--- the product at the place with a number
-abbrev pub term_at : List ℕ → List ℕ → List Axis → ℕ → ℕ → ℕ → ℕ
-term_at a b axes from_a from_b k =
-    get_or a ((from_a + offset_a axes (place_at axes k)) % 2 ^ 64) 0 * get_or b ((from_b + offset_b axes (place_at axes k)) % 2 ^ 64) 0
 
 -- an offset that is added may be known modulo 2^64 alone
 pub add-known : (p x o : ℕ) → x ≡ o % 2 ^ 64 → (p + x) % 2 ^ 64 ≡ (p + o) % 2 ^ 64
@@ -32,9 +27,9 @@ split : (i n : ℕ) → (i < n) ⊎ (n ≤ i)
 split i n = grind arith
 
 -- what holds of a run's offsets holds of all that fill the array
-pub all-filled : (P : ℕ → Type 0) (xs : List ℕ) (n : ℕ) → 0 < n → ((i : ℕ) → n ≤ i → i < 4 → get_or xs i 0 ≡ get_or xs 0 0)
-    → ((i : ℕ) → i < n → P (get_or xs i 0)) → (i : ℕ) → i < 4 → P (get_or xs i 0)
-all-filled P xs n some filled holds i low =
+pub all-filled : (N : ℕ) (P : ℕ → Type 0) (xs : List ℕ) (n : ℕ) → 0 < n → ((i : ℕ) → n ≤ i → i < N → get_or xs i 0 ≡ get_or xs 0 0)
+    → ((i : ℕ) → i < n → P (get_or xs i 0)) → (i : ℕ) → i < N → P (get_or xs i 0)
+all-filled N P xs n some filled holds i low =
     elim (split i n) [ inl front ↦ holds i front | inr behind ↦ subst P (sym (filled i behind low)) (holds 0 some) ]
 
 -- equal terms have equal sums over all places

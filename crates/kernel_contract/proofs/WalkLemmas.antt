@@ -143,41 +143,46 @@ get_or-filled (suc n) v zero low = refl
 get_or-filled (suc n) v (suc i) low = get_or-filled n v i (omega arith)
 
 -- a run of one place
-pub IsRun-of : (axes : List Axis) (first : ℕ) (new : Run) (at : Offsets) → AreOffsets axes (place_at axes first) at
-    → new.len ≡ 1 → new.a ≡ replicate 4 at.a → new.b ≡ replicate 4 at.b → new.to ≡ replicate 4 at.to → IsRun axes first new
-IsRun-of axes first new at here len a b to = record {
+pub IsRun-of : {N : ℕ} (axes : List Axis) (first : ℕ) (new : Run N) (at : Offsets) → 0 < N → AreOffsets axes (place_at axes first) at
+    → new.len ≡ 1 → new.a ≡ replicate N at.a → new.b ≡ replicate N at.b → new.to ≡ replicate N at.to → IsRun axes first new
+IsRun-of {N} axes first new at some here len a b to = record {
   some = omega arith;
   len = omega arith;
-  a = λ i low. let none : first + i ≡ first = omega arith in rw (a, none) (get_or-filled 4 at.a i (omega arith) ∙ here.a);
-  b = λ i low. let none : first + i ≡ first = omega arith in rw (b, none) (get_or-filled 4 at.b i (omega arith) ∙ here.b);
-  to = λ i low. let none : first + i ≡ first = omega arith in rw (to, none) (get_or-filled 4 at.to i (omega arith) ∙ here.to);
+  a = λ i low. let none : first + i ≡ first = omega arith in rw (a, none) (get_or-filled N at.a i (omega arith) ∙ here.a);
+  b = λ i low. let none : first + i ≡ first = omega arith in rw (b, none) (get_or-filled N at.b i (omega arith) ∙ here.b);
+  to = λ i low. let none : first + i ≡ first = omega arith in rw (to, none) (get_or-filled N at.to i (omega arith) ∙ here.to);
   filled = record {
-    a = λ i _ low. rw a (get_or-filled 4 at.a i low);
-    b = λ i _ low. rw b (get_or-filled 4 at.b i low);
+    a = λ i _ low. rw a (get_or-filled N at.a i low ∙ sym (get_or-filled N at.a 0 some));
+    b = λ i _ low. rw b (get_or-filled N at.b i low ∙ sym (get_or-filled N at.b 0 some));
   };
 }
 
 -- a write behind the first keeps the rest as it was filled
-filled-set : (xs : List ℕ) (n v : ℕ) → 0 < n → ((i : ℕ) → n ≤ i → i < 4 → get_or xs i 0 ≡ get_or xs 0 0)
-    → (i : ℕ) → n + 1 ≤ i → i < 4 → get_or (set xs n v) i 0 ≡ get_or (set xs n v) 0 0
-filled-set xs n v some rest i high low =
+filled-set : (N : ℕ) (xs : List ℕ) (n v : ℕ) → 0 < n → ((i : ℕ) → n ≤ i → i < N → get_or xs i 0 ≡ get_or xs 0 0)
+    → (i : ℕ) → n + 1 ≤ i → i < N → get_or (set xs n v) i 0 ≡ get_or (set xs n v) 0 0
+filled-set N xs n v some rest i high low =
     let behind : i ≢ n = omega arith in
     let front : 0 ≢ n = omega arith in
     get_or-set_other xs n i v 0 behind ∙ rest i (omega arith) low ∙ sym (get_or-set_other xs n 0 v 0 front)
 
 -- a run with one more place
-pub IsRun-push : (axes : List Axis) (first : ℕ) (run new : Run) (at : Offsets) → run.len < 4
-    → length run.a ≡ 4 → length run.b ≡ 4 → length run.to ≡ 4 → IsRun axes first run → AreOffsets axes (place_at axes (first + run.len)) at
+pub IsRun-push : {N : ℕ} (axes : List Axis) (first : ℕ) (run new : Run N) (at : Offsets) → run.len < N
+    → length run.a ≡ N → length run.b ≡ N → length run.to ≡ N → IsRun axes first run → AreOffsets axes (place_at axes (first + run.len)) at
     → new.len ≡ run.len + 1 → new.a ≡ set run.a run.len at.a → new.b ≡ set run.b run.len at.b → new.to ≡ set run.to run.len at.to
     → IsRun axes first new
-IsRun-push axes first run new at low len_a len_b len_to r here len a b to = record {
+IsRun-push {N} axes first run new at low len_a len_b len_to r here len a b to = record {
   some = omega arith;
   len = omega arith;
   a = rw (len, a) (front_step (λ i v. v ≡ offset_a axes (place_at axes (first + i)) % 2 ^ 64) run.a 0 at.a run.len (omega arith) r.a here.a);
   b = rw (len, b) (front_step (λ i v. v ≡ offset_b axes (place_at axes (first + i)) % 2 ^ 64) run.b 0 at.b run.len (omega arith) r.b here.b);
   to = rw (len, to) (front_step (λ i v. v ≡ offset_to axes (place_at axes (first + i)) % 2 ^ 64) run.to 0 at.to run.len (omega arith) r.to here.to);
   filled = record {
-    a = rw (len, a) (filled-set run.a run.len at.a r.some r.filled.a);
-    b = rw (len, b) (filled-set run.b run.len at.b r.some r.filled.b);
+    a = rw (len, a) (filled-set N run.a run.len at.a r.some r.filled.a);
+    b = rw (len, b) (filled-set N run.b run.len at.b r.some r.filled.b);
   };
 }
+
+-- where there are places and none is gone, a walk stands at one
+pub left_some : (axes : List Axis) (left : Bool) (place : List ℕ) → cond left (number axes place) (count axes) ≡ 0 → 0 < count axes → left ≡ true
+left_some axes true place none some = refl
+left_some axes false place none some = absurd (omega (arith, none))

@@ -5,3 +5,4 @@ pub mod Product
 pub mod Order
 pub mod Walks
 pub mod Parts
+pub mod Panels

@@ -1,5 +1,5 @@
 -- Places of a list of axes, and the offsets that strides give them.
-use Rattle.std.specs.Prelude.{ℕ, ◌+◌, ◌*◌, ◌<◌, List, [], ◌∷◌}
+use Rattle.std.specs.Prelude.{ℕ, ◌+◌, ◌*◌, ◌<◌, List, [], ◌∷◌, ◌++◌, replicate}
 use Rattle.kernel_contract.specs.Sum.{sum_to}
 use Rattle.kernel_contract.specs.declared.axis.Axis.{Axis}
 
@@ -15,6 +15,13 @@ abbrev pub offset : (Axis → ℕ) → List Axis → List ℕ → ℕ
 offset stride [] place = 0
 offset stride (x ∷ xs) [] = 0
 offset stride (x ∷ xs) (n ∷ ns) = n * stride x + offset stride xs ns
+
+-- an axis with one number, and a list with so many of them in front
+abbrev pub one : Axis
+one = record { len = 1; a = 0; b = 0; to = 0 }
+
+abbrev pub filled_up : ℕ → List Axis → List Axis
+filled_up n axes = replicate n one ++ axes
 
 -- the offsets of a place in the two sources and in the target
 abbrev pub offset_a : List Axis → List ℕ → ℕ

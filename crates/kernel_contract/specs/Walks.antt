@@ -43,14 +43,14 @@ pub record Stands {R : ℕ} (axes : List Axis) (walk : Walk R) : Type 0 where
   pub offsets : walk.left ≡ true → AreOffsets axes walk.at walk.offsets
 
 -- the first place's offsets in the sources fill the rest of the arrays
-pub record IsFilled (run : Run) : Type 0 where
-  pub a : (i : ℕ) → run.len ≤ i → i < 4 → slice_index run.a i ≡ slice_index run.a 0
-  pub b : (i : ℕ) → run.len ≤ i → i < 4 → slice_index run.b i ≡ slice_index run.b 0
+pub record IsFilled {N : ℕ} (run : Run N) : Type 0 where
+  pub a : (i : ℕ) → run.len ≤ i → i < N → slice_index run.a i ≡ slice_index run.a 0
+  pub b : (i : ℕ) → run.len ≤ i → i < N → slice_index run.b i ≡ slice_index run.b 0
 
--- the offsets of up to four places, from the one with this number on, modulo 2^64; the first fills the rest
-pub record IsRun (axes : List Axis) (first : ℕ) (run : Run) : Type 0 where
+-- the offsets of up to `N` places, from the one with this number on, modulo 2^64; the first fills the rest
+pub record IsRun {N : ℕ} (axes : List Axis) (first : ℕ) (run : Run N) : Type 0 where
   pub some : 0 < run.len
-  pub len : run.len ≤ 4
+  pub len : run.len ≤ N
   pub a : (i : ℕ) → i < run.len → slice_index run.a i ≡ offset_a axes (place_at axes (first + i)) % 2 ^ 64
   pub b : (i : ℕ) → i < run.len → slice_index run.b i ≡ offset_b axes (place_at axes (first + i)) % 2 ^ 64
   pub to : (i : ℕ) → i < run.len → slice_index run.to i ≡ offset_to axes (place_at axes (first + i)) % 2 ^ 64

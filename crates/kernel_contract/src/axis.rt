@@ -1,7 +1,7 @@
 //! One dimension of a contraction.
 
 /// A dimension's length and its strides in the two sources and in the target.
-#[derive(Clone, Copy, Debug, PartialEq, Eq)]
+#[derive(Clone, Copy)]
 pub struct Axis {
     /// How many numbers it has.
     pub len: u32,
@@ -14,9 +14,9 @@ pub struct Axis {
 }
 
 impl Axis {
-    // no numbers, and no strides
-    pub(crate) const NONE: Axis = Axis {
-        len: 0,
+    // one number, and no strides
+    pub(crate) const ONE: Axis = Axis {
+        len: 1,
         a: 0,
         b: 0,
         to: 0,

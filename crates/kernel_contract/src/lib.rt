@@ -2,22 +2,23 @@
 #![tactic(auto)]
 
 mod axis;
+mod by_panels;
+mod contracting;
 mod fronts;
 pub mod laws;
 mod order;
 mod packing;
+mod panel;
 mod run;
 mod splits;
 mod storing;
-#[cfg(test)]
-mod tests;
 mod tile_sums;
 mod tiled;
 mod tiles;
 mod walk;
 
 pub use axis::Axis;
+pub use contracting::contract;
 pub use order::is_by_rows;
 pub use splits::contract_any;
-pub use tiled::contract;
 pub use tiles::{tile, tile_any};

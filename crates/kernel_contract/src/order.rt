@@ -42,7 +42,7 @@ fn lies_by_rows(
 }
 
 /// One of the three lists of numbers.
-#[derive(Clone, Copy, Debug)]
+#[derive(Clone, Copy)]
 pub enum Side {
     A,
     B,

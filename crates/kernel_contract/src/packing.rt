@@ -18,7 +18,8 @@ pub fn packed(from: &[u64], rows: &[usize; 4], columns: &[usize; 4]) -> [[u64; 4
     ]
 }
 
-fn packed_row(from: &[u64], row: usize, columns: &[usize; 4]) -> [u64; 4]
+/// The numbers at an offset plus each of four others.
+pub fn packed_row(from: &[u64], row: usize, columns: &[usize; 4]) -> [u64; 4]
     requires { (j : ℕ) → j < 4
         → (row + slice_index columns.now j) % 2 ^ 64 < length from.now }
     ensures { (j : ℕ) → j < 4 → slice_index result j

@@ -9,7 +9,7 @@ use crate::run::Run;
 use kernel_permute::How;
 
 /// Each number of the tile meets its value.
-pub fn store(to: &mut [u64], rows: &Run, columns: &Run, values: &[[u64; 4]; 4], how: How)
+pub fn store(to: &mut [u64], rows: &Run<4>, columns: &Run<4>, values: &[[u64; 4]; 4], how: How)
     requires few_rows { rows.now.len ≤ 4 }
     requires few_columns { columns.now.len ≤ 4 }
     requires targets { AreTargets
@@ -24,7 +24,7 @@ pub fn store(to: &mut [u64], rows: &Run, columns: &Run, values: &[[u64; 4]; 4], 
     }
 }
 
-fn store_row(to: &mut [u64], row: usize, columns: &Run, values: &[u64; 4], how: How)
+fn store_row(to: &mut [u64], row: usize, columns: &Run<4>, values: &[u64; 4], how: How)
     requires few_columns { columns.now.len ≤ 4 }
     requires targets { AreTargets (λ i j. (row + slice_index columns.now.to j) % 2 ^ 64)
         1 columns.now.len (length to.old) }

@@ -16,8 +16,8 @@ use crate::walk::Walk;
 pub fn products<const S: usize>(
     a: &[u64],
     b: &[u64],
-    rows: &Run,
-    columns: &Run,
+    rows: &Run<4>,
+    columns: &Run<4>,
     shared: &[Axis; S],
 ) -> [[u64; 4]; 4]
     requires some_rows { 1 ≤ rows.now.len }

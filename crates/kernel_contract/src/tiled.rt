@@ -13,11 +13,9 @@ use crate::tile_sums::products;
 use crate::walk::Walk;
 use kernel_permute::How;
 
-/// Contracts `a` and `b` along the shared axes, for each place of the free axes.
-///
-/// It goes over the places in runs of up to four, packs the parts of both operands that belong to
-/// them, and multiplies tiles.
-pub fn contract<const FA: usize, const FB: usize, const S: usize>(
+/// Contracts as `contract` does: it goes over the places in runs of up to four, packs the parts of both
+/// operands that belong to them, and multiplies tiles.
+pub fn by_tiles<const FA: usize, const FB: usize, const S: usize>(
     a: &[u64],
     b: &[u64],
     to: &mut [u64],
@@ -42,7 +40,7 @@ fn across<const FB: usize, const S: usize>(
     a: &[u64],
     b: &[u64],
     to: &mut [u64],
-    rows: &Run,
+    rows: &Run<4>,
     free_b: &[Axis; FB],
     shared: &[Axis; S],
     how: How,

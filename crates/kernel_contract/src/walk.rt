@@ -8,7 +8,7 @@ use crate::axis::Axis;
 use crate::run::Run;
 
 /// The offsets of a place in the two sources and in the target, modulo 2^64.
-#[derive(Clone, Copy, Debug)]
+#[derive(Clone, Copy)]
 pub struct Offsets {
     pub a: usize,
     pub b: usize,
@@ -47,7 +47,7 @@ impl Offsets {
 }
 
 /// A place among those of `R` axes, or the end.
-#[derive(Clone, Copy, Debug)]
+#[derive(Clone, Copy)]
 pub struct Walk<const R: usize> {
     /// Whether it stands at a place.
     pub left: bool,
@@ -107,8 +107,9 @@ impl<const R: usize> Walk<R> {
         self.left = false;
     }
 
-    /// The next places, up to four.
-    pub fn run(&mut self, axes: &[Axis; R]) -> Run
+    /// The next places, up to `N`.
+    pub fn run<const N: usize>(&mut self, axes: &[Axis; R]) -> Run<N>
+        requires some { 0 < N }
         requires left { self.old.left ≡ true }
         requires stands { Stands axes.now self.old }
         ensures stands { Stands axes.now self.new }
@@ -117,7 +118,7 @@ impl<const R: usize> Walk<R> {
         ensures within { gone axes.now self.new ≤ count axes.now }
     {
         let mut run = Run::of(self.step(axes));
-        while self.left && run.len < 4 {
+        while self.left && run.len < N {
             run.push(self.step(axes));
         }
         run

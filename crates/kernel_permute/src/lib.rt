@@ -13,8 +13,6 @@ mod rows;
 mod slicing;
 mod strided;
 mod strides;
-#[cfg(test)]
-mod tests;
 
 pub use any::{permute_any, put_in_any, slice_out_any};
 pub use gathering::gather;

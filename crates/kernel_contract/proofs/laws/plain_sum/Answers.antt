@@ -1,9 +1,10 @@
 use Rattle.std.proofs.Common.{◌≡◌, ◌+◌, ◌%◌, ◌^◌, ◌∙◌, arith, ap, sym, refl, get_or}
+use Rattle.kernel_contract.specs.Parts.{term_at}
 use Rattle.kernel_contract.specs.Places.{offset_a, offset_b}
 use Rattle.kernel_contract.specs.Sum.{sum_to}
 use Rattle.kernel_contract.specs.Walks.{count, gone, place_at}
 use Rattle.kernel_contract.proofs.PlaceLemmas.{sum_over-sum_to}
-use Rattle.kernel_contract.proofs.SourceLemmas.{Reaches-place_at, add-known, term_at}
+use Rattle.kernel_contract.proofs.SourceLemmas.{Reaches-place_at, add-known}
 use Rattle.kernel_contract.proofs.Sums.{sum_next}
 use Rattle.kernel_contract.proofs.laws.plain_sum.Goals as goal
 

@@ -1,7 +1,7 @@
 use Rattle.std.proofs.Common.{◌≡◌, ◌-◌, ◌%◌, ◌^◌}
+use Rattle.kernel_contract.specs.Parts.{term_at}
 use Rattle.kernel_contract.specs.Sum.{sum_to}
 use Rattle.kernel_contract.specs.Walks.{Stands, count, gone}
-use Rattle.kernel_contract.proofs.SourceLemmas.{term_at}
 use Rattle.kernel_contract.proofs.laws.plain_sum.Given as goal
 
 abbrev pub invariant-loop-walk : goal.invariant-loop-walk

@@ -1,19 +1,20 @@
 use Rattle.std.proofs.Common.{◌≡◌, ◌+◌, ◌<◌, ◌%◌, ◌^◌, ◌∙◌, arith, ap, add_comm, get_or, length, sym, refl}
+use Rattle.kernel_contract.specs.Parts.{term_at}
 use Rattle.kernel_contract.specs.Places.{offset_a, offset_b}
 use Rattle.kernel_contract.specs.Product.{row_of}
 use Rattle.kernel_contract.specs.Sum.{sum_to}
 use Rattle.kernel_contract.specs.Walks.{count, gone}
 use Rattle.kernel_contract.proofs.PlaceLemmas.{sum_over-sum_to}
-use Rattle.kernel_contract.proofs.SourceLemmas.{Reaches-place_at, all-filled, row_by-terms, term_at}
+use Rattle.kernel_contract.proofs.SourceLemmas.{Reaches-place_at, all-filled, row_by-terms}
 use Rattle.kernel_contract.proofs.Sums.{sum_more}
 use Rattle.kernel_contract.proofs.tile_sums.products.Goals as goal
 
 pub packed-part_a-requires : goal.packed-part_a-requires
 packed-part_a-requires g c i j row low =
     let run = c.run-run.ensures.run in
-    all-filled (λ x. (x + get_or c.run-run.result.a j 0) % 2 ^ 64 < length c.args.a.now) c.args.rows.now.a c.args.rows.now.len
+    all-filled 4 (λ x. (x + get_or c.run-run.result.a j 0) % 2 ^ 64 < length c.args.a.now) c.args.rows.now.a c.args.rows.now.len
     c.requires.some_rows c.requires.filled_rows.a
-    (λ r inside. all-filled (λ y. (get_or c.args.rows.now.a r 0 + y) % 2 ^ 64 < length c.args.a.now) c.run-run.result.a c.run-run.result.len
+    (λ r inside. all-filled 4 (λ y. (get_or c.args.rows.now.a r 0 + y) % 2 ^ 64 < length c.args.a.now) c.run-run.result.a c.run-run.result.len
     run.some run.filled.a
     (λ k place. Reaches-place_at offset_a c.args.shared.now _ _ (gone c.args.shared.now c.loop-walk.walk + k) _ (c.requires.in_a r inside)
     (omega (arith, c.run-run.ensures.gone, c.run-run.ensures.within)) (run.a k place))
@@ -24,9 +25,9 @@ pub packed-part_b-requires : goal.packed-part_b-requires
 packed-part_b-requires g c i j low column =
     let run = c.run-run.ensures.run in
     rw (add_comm (get_or c.run-run.result.b i 0) (get_or c.args.columns.now.b j 0))
-    (all-filled (λ x. (x + get_or c.run-run.result.b i 0) % 2 ^ 64 < length c.args.b.now) c.args.columns.now.b c.args.columns.now.len
+    (all-filled 4 (λ x. (x + get_or c.run-run.result.b i 0) % 2 ^ 64 < length c.args.b.now) c.args.columns.now.b c.args.columns.now.len
     c.requires.some_columns c.requires.filled_columns.b
-    (λ r inside. all-filled (λ y. (get_or c.args.columns.now.b r 0 + y) % 2 ^ 64 < length c.args.b.now) c.run-run.result.b c.run-run.result.len
+    (λ r inside. all-filled 4 (λ y. (get_or c.args.columns.now.b r 0 + y) % 2 ^ 64 < length c.args.b.now) c.run-run.result.b c.run-run.result.len
     run.some run.filled.b
     (λ k place. Reaches-place_at offset_b c.args.shared.now _ _ (gone c.args.shared.now c.loop-walk.walk + k) _ (c.requires.in_b r inside)
     (omega (arith, c.run-run.ensures.gone, c.run-run.ensures.within)) (run.b k place))

@@ -1,8 +1,8 @@
 use Rattle.std.proofs.Common.{◌≡◌, ◌-◌, ◌%◌, ◌^◌, ◌<◌, ◌≤◌, ℕ, get_or}
+use Rattle.kernel_contract.specs.Parts.{term_at}
 use Rattle.kernel_contract.specs.Product.{entry}
 use Rattle.kernel_contract.specs.Sum.{sum_to}
 use Rattle.kernel_contract.specs.Walks.{Stands, count, gone}
-use Rattle.kernel_contract.proofs.SourceLemmas.{term_at}
 use Rattle.kernel_contract.proofs.tile_sums.products.Given as goal
 
 abbrev pub invariant-loop-walk : goal.invariant-loop-walk

@@ -7,10 +7,10 @@ invariant-loop-self g l = record {
   stands : Stands l.axes l.self;
   run : IsRun l.axes (gone l.fn.axes l.fn.self) l.run;
   gone : gone l.axes l.self ≡ gone l.fn.axes l.fn.self + l.run.len;
-  len_a : length l.run.a ≡ 4;
-  len_b : length l.run.b ≡ 4;
-  len_to : length l.run.to ≡ 4;
+  len_a : length l.run.a ≡ g.row.N;
+  len_b : length l.run.b ≡ g.row.N;
+  len_to : length l.run.to ≡ g.row.N;
 }
 
 abbrev pub decreases-loop-self : goal.decreases-loop-self
-decreases-loop-self g l = 4 - l.run.len
+decreases-loop-self g l = g.row.N - l.run.len

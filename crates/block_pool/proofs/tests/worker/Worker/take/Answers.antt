@@ -1,5 +1,0 @@
-use Rattle.block_pool.proofs.Frames.{stands_in_after}
-use Rattle.block_pool.proofs.tests.worker.Worker.take.Goals as goal
-
-pub returns-clause-stands : goal.returns-clause-stands
-returns-clause-stands c = stands_in_after c.take_at.ensures.others c.take_at.ensures.holds c.requires.stands

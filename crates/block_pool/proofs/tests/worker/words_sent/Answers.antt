@@ -1,4 +1,0 @@
-use Rattle.block_pool.proofs.tests.worker.words_sent.Goals as goal
-
-pub sending-requires : goal.sending-requires
-sending-requires c = c.requires.sending.stands 0 c.in-Some.lease c.in-Some.is

@@ -1,0 +1,9 @@
+use Rattle.std.proofs.Common.{◌≡◌, length}
+use Rattle.kernel_contract.specs.Panels.{IsPanel}
+use Rattle.kernel_contract.proofs.panel.panel.Given as goal
+
+abbrev pub invariant-loop-k : goal.invariant-loop-k
+invariant-loop-k l = record {
+  len : length l.panel ≡ 64;
+  done : IsPanel l.from l.lanes l.places l.k l.panel;
+}

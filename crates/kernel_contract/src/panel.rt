@@ -1,0 +1,83 @@
+//! Panels: the numbers of four rows, or of four columns, at each shared place of a part.
+
+ghost use Rattle.std.specs.Prelude.{◌≡◌, ◌+◌, ◌*◌, ◌%◌, ◌^◌, ◌<◌, ◌≤◌, ℕ, length, slice_index};
+ghost use Rattle.kernel_contract.specs.Panels.{IsPanel, ArePanels, Loads};
+ghost use Rattle.kernel_contract.specs.Product.{entry};
+ghost use Rattle.kernel_contract.specs.Sum.{sum_to};
+ghost use Rattle.kernel_contract.specs.Walks.{IsFilled};
+
+use crate::packing::packed_row;
+use crate::run::Run;
+
+/// The most shared places of a part.
+pub const DEPTH: usize = 64;
+
+/// The numbers of four rows, or of four columns, at each place of a part.
+pub type Panel = [[u64; 4]; 64];
+
+/// The panel of four offsets at the places of a part.
+pub fn panel(from: &[u64], lanes: &[usize; 4], places: &[usize; 64], len: usize) -> Panel
+    requires few { len ≤ 64 }
+    requires within { Loads lanes.now places.now 4 len (length from.now) }
+    ensures { IsPanel from.now lanes.now places.now len result }
+{
+    let mut panel = [[0u64; 4]; 64];
+    for k in 0..len {
+        panel[k] = packed_row(from, places[k], lanes);
+    }
+    panel
+}
+
+/// Packs a panel for each four columns at the places of a part.
+pub fn pack_columns(from: &[u64], columns: &Run<64>, part: &Run<64>, panels: &mut [Panel; 16])
+    requires some { 0 < columns.now.len }
+    requires few { columns.now.len ≤ 64 }
+    requires filled { IsFilled columns.now }
+    requires few_places { part.now.len ≤ 64 }
+    requires within { Loads columns.now.b part.now.b columns.now.len part.now.len (length from.now) }
+    ensures { ArePanels from.now columns.now.b part.now.b columns.now.len part.now.len panels.new }
+{
+    for q in 0..16usize {
+        if 4 * q < columns.len {
+            panels[q] = panel(from, &columns.four(4 * q).b, &part.b, part.len);
+        }
+    }
+}
+
+/// The sum of the products of each row of one panel with each column of another, over all places.
+pub fn panel_sums(a: &[[u64; 4]], b: &[[u64; 4]]) -> [[u64; 4]; 4]
+    requires { length a.now ≡ length b.now }
+    ensures { (i j : ℕ) → i < 4 → j < 4 → entry result i j
+        ≡ sum_to (length a.now) (λ k. entry a.now k i * entry b.now k j) % 2 ^ 64 }
+{
+    let mut sums = [[0u64; 4]; 4];
+    for (place, rows) in a.iter().enumerate() {
+        sums = with_products(&sums, rows, &b[place]);
+    }
+    sums
+}
+
+// sums with the products of all rows and all columns at one place
+fn with_products(sums: &[[u64; 4]; 4], rows: &[u64; 4], columns: &[u64; 4]) -> [[u64; 4]; 4]
+    ensures { (i j : ℕ) → i < 4 → j < 4 → entry result i j
+        ≡ (entry sums.now i j + slice_index rows.now i * slice_index columns.now j % 2 ^ 64) % 2 ^ 64 }
+{
+    [
+        with_row(&sums[0], rows[0], columns),
+        with_row(&sums[1], rows[1], columns),
+        with_row(&sums[2], rows[2], columns),
+        with_row(&sums[3], rows[3], columns),
+    ]
+}
+
+fn with_row(sums: &[u64; 4], row: u64, columns: &[u64; 4]) -> [u64; 4]
+    ensures { (j : ℕ) → j < 4 → slice_index result j
+        ≡ (slice_index sums.now j + row * slice_index columns.now j % 2 ^ 64) % 2 ^ 64 }
+{
+    [
+        sums[0].wrapping_add(row.wrapping_mul(columns[0])),
+        sums[1].wrapping_add(row.wrapping_mul(columns[1])),
+        sums[2].wrapping_add(row.wrapping_mul(columns[2])),
+        sums[3].wrapping_add(row.wrapping_mul(columns[3])),
+    ]
+}
