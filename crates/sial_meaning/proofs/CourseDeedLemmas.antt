@@ -28,7 +28,7 @@ use Rattle.sial_meaning.proofs.CourseLemmasKept.{begins_so}
 use Rattle.sial_meaning.proofs.CourseLemmasRest.{Fit}
 use Rattle.sial_meaning.proofs.DeedFold.{iteration_is}
 use Rattle.sial_meaning.proofs.DeedLemmas.{touches_append, traps_append, written_append, added_append, applied_none, applied_append}
-use Rattle.sial_meaning.proofs.DeedTraps.{Clear, clear_iteration}
+use Rattle.sial_meaning.proofs.EachDeed.{Clear, clear_iteration}
 
 -- an iteration of a pardo of the course is its deeds
 pub iterations_are_deeds : IterationsAreTheirDeeds
@@ -36,7 +36,7 @@ iterations_are_deeds g set t these wheres body b d tuple s e =
     let f = course_fit g set t in iteration_is g set f.d f.indices these wheres body (begins_so g set (course g t).work f these wheres body b).0 d s
 
 -- what the worker held at the end
-abbrev own_after : Ran → Own
+abbrev pub own_after : Ran → Own
 own_after (Held before own) = own
 own_after (Broke before trap own) = own
 
@@ -79,7 +79,7 @@ left_then a b x y z l m = record {
 
 module _ (g : Setting) (set : IsGrantedSetting g) (d : ℕ) (indices these : List ℕ) (wheres : List Cond) (body : Block) (stands : PardoStands g set d indices these body) (enough : d ≤ call_depth) where
   -- an iteration, where procedures may call as deep as anywhere, or only as deep as they do
-  iteration_same : (s : State) → iteration wheres (block_meaning Copied g (calls Copied g call_depth) body) s ≡ iteration wheres (block_meaning Copied g (calls Copied g d) body) s
+  pub iteration_same : (s : State) → iteration wheres (block_meaning Copied g (calls Copied g call_depth) body) s ≡ iteration wheres (block_meaning Copied g (calls Copied g d) body) s
   iteration_same s =
       same_unless
       (all_met s.own wheres)

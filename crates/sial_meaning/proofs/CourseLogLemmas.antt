@@ -1,5 +1,5 @@
 -- The log and the traps of each point of the course are those of the deeds before it.
-use Rattle.std.proofs.Common.{◌≡◌, ℕ, zero, suc, List, [], ◌∷◌, ◌++◌, Bool, true, false, not, ◌||◌, if◌then◌else◌, Option, Some, None, Ok, Err, slice_index_or, refl, sym, ap, ◌∙◌, append-nil}
+use Rattle.std.proofs.Common.{◌≡◌, ℕ, zero, suc, List, [], ◌∷◌, ◌++◌, Bool, true, false, not, ◌||◌, if◌then◌else◌, Option, Some, None, Ok, Err, refl, sym, ap, ◌∙◌, append-nil}
 use Rattle.std.specs.List.{list_any}
 use Rattle.sial_syntax.specs.declared.access.Access.{Access}
 use Rattle.sial_syntax.specs.declared.classes.ScalarClass.{ScalarClass}
@@ -19,7 +19,7 @@ use Rattle.sial_meaning.specs.DeedLaws.{CoursesAreTheirDeeds}
 use Rattle.sial_meaning.specs.Deeds.{Deed, touches, traps}
 use Rattle.sial_meaning.specs.LocalStep.{Done, Answer, and_then, or_trap, quiet, scalar_assigned, scalar_value, scalar_line, to_scalar, to_target, needs_old, with_words, old_words, words_of, matched, is_allocated, integrals, side_read, all_allocated, all_deallocated, local_step}
 use Rattle.sial_meaning.specs.Own.{Own, sight, scalar_of}
-use Rattle.sial_meaning.specs.Ran.{view_of, Ran, Held, Broke, touch_of, reads_done, no_partials, added_to, additions, local_ran, put_ran, effect_ran, unless_broken, statement_ran}
+use Rattle.sial_meaning.specs.Ran.{view_of, Ran, Held, Broke, touch_of, reads_done, no_partials, additions, local_ran, put_ran, effect_ran, unless_broken, statement_ran}
 use Rattle.sial_meaning.specs.Rest.{Rest, Over, Next, Turn, Join, Back, Within}
 use Rattle.sial_meaning.specs.Right.{Side, assigned, is_insertion}
 use Rattle.sial_meaning.specs.Setting.{Setting, array_kind, scalar_class}
@@ -31,11 +31,11 @@ use Rattle.sial_meaning.proofs.CourseDeedLemmas.{pardo_steps}
 use Rattle.sial_meaning.proofs.CourseLemmasFit.{course_fit}
 use Rattle.sial_meaning.proofs.CourseLemmasRest.{Fit}
 use Rattle.sial_meaning.proofs.DeedLemmas.{touches_append, traps_append}
-use Rattle.sial_meaning.proofs.DeedStatement.{reads_are}
-use Rattle.sial_meaning.proofs.DeedTraps.{Clear, clear_statement}
+use Rattle.sial_meaning.proofs.DeedStatement.{reads_are, additions_touch}
+use Rattle.sial_meaning.proofs.EachDeed.{Clear, clear_statement}
 
 -- both answers are given, or both trap
-abbrev BothEnd : Answer Done → Answer Done → Type 0
+abbrev pub BothEnd : Answer Done → Answer Done → Type 0
 BothEnd (Ok a) (Ok b) = Unit {0}
 BothEnd (Ok a) (Err kind) = ⊥
 BothEnd (Err kind) (Ok b) = ⊥
@@ -64,7 +64,7 @@ both_scalar g Private s op side own ps qs = both_set s op (scalar_value g side) 
 both_scalar g Partial s op side own ps qs = tt
 
 -- whether a local step traps doesn't depend on the partial scalars
-both_step : (g : Setting) (form : Plain) (values : List (List ℕ)) (own : Own) (ps qs : List ℕ) → BothEnd (local_step g form values own ps) (local_step g form values own qs)
+pub both_step : (g : Setting) (form : Plain) (values : List (List ℕ)) (own : Own) (ps qs : List ℕ) → BothEnd (local_step g form values own ps) (local_step g form values own qs)
 both_step g (Assign (target.Scalar s) op right) values own ps qs =
     both_then
     (side_read g own right values)
@@ -116,22 +116,11 @@ both_step g (Integrals block) values own ps qs =
 both_step g form values own ps qs = tt
 
 -- the log of an outcome, beside the deeds of the same statement
-abbrev LogsLike : List Touch → Outcome → Ran → Type 0
+abbrev pub LogsLike : List Touch → Outcome → Ran → Type 0
 LogsLike log (Went t) (Held ds own) = t.log ≡ log ++ touches ds
 LogsLike log (Went t) (Broke ds trap own) = ⊥
 LogsLike log (Stopped trap t) (Held ds own) = ⊥
 LogsLike log (Stopped trap t) (Broke ds other own) = Unit {0}
-
--- an addition is no access
-none_touched : (class : ScalarClass) (scalar n : ℕ) → touches (added_to class scalar n) ≡ []
-none_touched Replicated scalar n = refl
-none_touched Private scalar n = refl
-none_touched Partial scalar n = refl
-
--- nor are those of a statement
-pub additions_touch : (g : Setting) (form : Plain) (ps : List ℕ) → touches (additions g form ps) ≡ []
-additions_touch g (Assign (target.Scalar s) op right) ps = none_touched (scalar_class g s) s (slice_index_or ps s 0)
-additions_touch g form ps = refl
 
 -- a local statement
 local_logs : (g : Setting) (line : ℕ) (form : Plain) (blocks : List BlockRef) (s : State) (a b : Answer Done) → BothEnd a b → LogsLike s.log (local_done line (reads_logged g line blocks s) a) (local_ran g line form (reads_done g (view_of s) line s.own blocks) s.own b)
@@ -178,7 +167,7 @@ trapped_logs line s None f next h = h
 trapped_logs line s (Some kind) f next h = tt
 
 -- the log of any statement
-statement_logs : (g : Setting) (line : ℕ) (form : Plain) (s : State) → LogsLike s.log (statement Copied g line form s) (statement_ran g (view_of s) line form s.own)
+pub statement_logs : (g : Setting) (line : ℕ) (form : Plain) (s : State) → LogsLike s.log (statement Copied g line form s) (statement_ran g (view_of s) line form s.own)
 statement_logs g line form s = trapped_logs line s (created_trap g form s.own) (effect Copied g line form) (effect_ran g (view_of s) line form) (effect_logs g line form s)
 
 -- what a step logs and notes, beside its deeds

@@ -31,12 +31,12 @@ use Rattle.sial_meaning.proofs.CourseLemmasStand.{written_there}
 use Rattle.sial_meaning.proofs.DeedLemmas.{outside_same, applied_none, written_append, added_append, touches_append}
 
 -- reads change no block
-reads_written : (g : Setting) (v : View) (line : ℕ) (own : Own) (blocks : List BlockRef) (shared : Shared) → written (reads_done g v line own blocks) shared ≡ shared
+pub reads_written : (g : Setting) (v : View) (line : ℕ) (own : Own) (blocks : List BlockRef) (shared : Shared) → written (reads_done g v line own blocks) shared ≡ shared
 reads_written g v line own [] shared = refl
 reads_written g v line own (b ∷ bs) shared = reads_written g v line own bs shared
 
 -- nor any partial scalar
-reads_added : (g : Setting) (v : View) (line : ℕ) (own : Own) (blocks : List BlockRef) (partials : List ℕ) → added (reads_done g v line own blocks) partials ≡ partials
+pub reads_added : (g : Setting) (v : View) (line : ℕ) (own : Own) (blocks : List BlockRef) (partials : List ℕ) → added (reads_done g v line own blocks) partials ≡ partials
 reads_added g v line own [] partials = refl
 reads_added g v line own (b ∷ bs) partials = reads_added g v line own bs partials
 
@@ -95,13 +95,20 @@ zero_made n scalar made there =
     let long = length-replicate {A = ℕ} n 0 in
     get_or-set_same (replicate n 0) scalar (made (get_or (replicate n 0) scalar 0)) 0 (omega (arith, there, long)) ∙ ap made (zeros_at n scalar)
 
+-- nothing is added to a scalar that isn't partial
+none_added : (b : Bool) (class : ScalarClass) (scalar n : ℕ) → (class ≡ Partial → ⊥) → (if b then added_to class scalar n else []) ≡ []
+none_added true Replicated scalar n apart = refl
+none_added true Private scalar n apart = refl
+none_added true Partial scalar n apart = absurd (apart refl)
+none_added false class scalar n apart = refl
+
 -- a scalar assigned
 target_alike : (g : Setting) (s : ℕ) (op : Op) (right : Right) (side : Side) (class : ScalarClass) (own : Own) (partials : List ℕ) → scalar_class g s ≡ class → s < length g.program.scalars → (class ≡ Partial → accumulates op ≡ true)
     → Alike g (Assign (target.Scalar s) op right) partials (to_scalar g class s op side own partials) (to_scalar g class s op side own (no_partials g))
 target_alike g s op right side Replicated own partials e there only =
-    scalar_alike g (Assign (target.Scalar s) op right) partials s op (scalar_value g side) own (needs_old op) (or_trap UnsetScalar (scalar_of own s)) (ap (λ c. added_to c s (get_or (no_partials g) s 0)) e)
+    scalar_alike g (Assign (target.Scalar s) op right) partials s op (scalar_value g side) own (needs_old op) (or_trap UnsetScalar (scalar_of own s)) (none_added (accumulates op) (scalar_class g s) s (get_or (no_partials g) s 0) (λ same. absurd cc))
 target_alike g s op right side Private own partials e there only =
-    scalar_alike g (Assign (target.Scalar s) op right) partials s op (scalar_value g side) own (needs_old op) (or_trap UnsetScalar (scalar_of own s)) (ap (λ c. added_to c s (get_or (no_partials g) s 0)) e)
+    scalar_alike g (Assign (target.Scalar s) op right) partials s op (scalar_value g side) own (needs_old op) (or_trap UnsetScalar (scalar_of own s)) (none_added (accumulates op) (scalar_class g s) s (get_or (no_partials g) s 0) (λ same. absurd cc))
 target_alike g s op right side Partial own partials e there only =
     let value = scalar_value g side in
     let made : ℕ = get_or (set (no_partials g) s (combined op (get_or (no_partials g) s 0) value)) s 0 in
@@ -109,7 +116,7 @@ target_alike g s op right side Partial own partials e there only =
       refl,
       refl,
       ap (set partials s) (added_so op (get_or partials s 0) value (only refl) ∙ ap (plus (get_or partials s 0)) (sym is))
-          ∙ sym (ap (λ c. added (added_to c s made) partials) e),
+          ∙ sym (ap (λ c. added (if accumulates op then added_to c s made else []) partials) e ∙ ap (λ b. added (if b then added_to Partial s made else []) partials) (only refl)),
     )
 
 -- a local step
@@ -189,6 +196,30 @@ step_alike g (Integrals block) calm values own partials =
     (λ old. (refl, refl, refl))
 step_alike g form calm values own partials = (refl, refl, refl)
 
+-- an addition is no access
+none_touched : (b : Bool) (class : ScalarClass) (scalar n : ℕ) → touches (if b then added_to class scalar n else []) ≡ []
+none_touched true Replicated scalar n = refl
+none_touched true Private scalar n = refl
+none_touched true Partial scalar n = refl
+none_touched false class scalar n = refl
+
+-- nor are those of a statement
+pub additions_touch : (g : Setting) (form : Plain) (ps : List ℕ) → touches (additions g form ps) ≡ []
+additions_touch g (Assign (target.Scalar s) op right) ps = none_touched (accumulates op) (scalar_class g s) s (get_or ps s 0)
+additions_touch g form ps = refl
+
+-- an addition writes no block
+none_written : (b : Bool) (class : ScalarClass) (scalar n : ℕ) (shared : Shared) → written (if b then added_to class scalar n else []) shared ≡ shared
+none_written true Replicated scalar n shared = refl
+none_written true Private scalar n shared = refl
+none_written true Partial scalar n shared = refl
+none_written false class scalar n shared = refl
+
+-- nor do those of a statement
+pub additions_write : (g : Setting) (form : Plain) (ps : List ℕ) (shared : Shared) → written (additions g form ps) shared ≡ shared
+additions_write g (Assign (target.Scalar s) op right) ps shared = none_written (accumulates op) (scalar_class g s) s (get_or ps s 0) shared
+additions_write g form ps shared = refl
+
 -- a state with other accesses, partial scalars, worker's part and lines
 abbrev after_local : State → List Touch → Shared → List ℕ → Own → List (List ℕ) → State
 after_local s log shared partials own lines = record s { log = log; shared = shared; partials = partials; own = own; lines = lines }
@@ -213,24 +244,9 @@ local_is g line form blocks s (Ok a) (Ok b) (same, quiet_so, partials) =
     (written (reads ++ more) s.shared)
     (added more s.partials)
     (added (reads ++ more) s.partials)
-    (ap (λ xs. s.log ++ xs) (sym (touches_append reads more ∙ (ap (λ xs. touches reads ++ xs) (no_touch g form b.partials) ∙ append-nil (touches reads)))))
-    (sym (written_append reads more s.shared ∙ no_write g form b.partials (written reads s.shared)))
+    (ap (λ xs. s.log ++ xs) (sym (touches_append reads more ∙ (ap (λ xs. touches reads ++ xs) (additions_touch g form b.partials) ∙ append-nil (touches reads)))))
+    (sym (written_append reads more s.shared ∙ additions_write g form b.partials (written reads s.shared)))
     (sym (added_append reads more s.partials ∙ ap (added more) (reads_added g (view_of s) line s.own blocks s.partials))))))))
-  where
-    no_touch_of : (class : ScalarClass) (scalar n : ℕ) → touches (added_to class scalar n) ≡ []
-    no_touch_of Replicated scalar n = refl
-    no_touch_of Private scalar n = refl
-    no_touch_of Partial scalar n = refl
-    no_write_of : (class : ScalarClass) (scalar n : ℕ) (shared : Shared) → written (added_to class scalar n) shared ≡ shared
-    no_write_of Replicated scalar n shared = refl
-    no_write_of Private scalar n shared = refl
-    no_write_of Partial scalar n shared = refl
-    no_touch : (g : Setting) (form : Plain) (ps : List ℕ) → touches (additions g form ps) ≡ []
-    no_touch g (Assign (target.Scalar s) op right) ps = no_touch_of (scalar_class g s) s (get_or ps s 0)
-    no_touch g form ps = refl
-    no_write : (g : Setting) (form : Plain) (ps : List ℕ) (shared : Shared) → written (additions g form ps) shared ≡ shared
-    no_write g (Assign (target.Scalar s) op right) ps shared = no_write_of (scalar_class g s) s (get_or ps s 0) shared
-    no_write g form ps shared = refl
 local_is g line form blocks s (Ok a) (Err kind) h = absurd h
 local_is g line form blocks s (Err kind) (Ok b) h = absurd h
 local_is g line form blocks s (Err kind) (Err other) h =

@@ -62,7 +62,7 @@ begun-good g false pardo number rest s own outer in-range whole out once has all
     among-behind (x ∷ xs) ys i has = or-right (x == i) (contains (xs ++ ys) i) (among-behind xs ys i has)
 
 -- a pardo in progress
-within-good : (g : Setting) (more : Bool) (pardo : PardoAt) (number : ℕ) (rest : Rest) (s : State) (outer : List ℕ) → nat_lt number (volume (box_of g.spaces pardo.indices)) ≡ more → InRange g outer s.own.values → IsWhole g s
+pub within-good : (g : Setting) (more : Bool) (pardo : PardoAt) (number : ℕ) (rest : Rest) (s : State) (outer : List ℕ) → nat_lt number (volume (box_of g.spaces pardo.indices)) ≡ more → InRange g outer s.own.values → IsWhole g s
     → share_any pardo.indices outer ≡ false → has_twice pardo.indices ≡ false → IsTrue (list_all (has_index g.program) pardo.indices) → AllGood g (visits (pardo.indices ++ outer) true pardo.body) → GoodRest g outer rest → GoodAt g (led s (went_within g more pardo number rest s.own))
 within-good g true pardo number rest s outer is in-range whole out once has all good =
     let below : number < volume (box_of g.spaces pardo.indices) = grind (arith, nat_tests) in
@@ -148,7 +148,7 @@ next-good reading g at line (PrintScalar scalar) rest s indices within sound in-
 next-good reading g at line (Integrals block) rest s indices within sound in-range whole good inner rest-good = plain-good reading g line (Integrals block) rest s indices within sound in-range whole good rest-good
 
 -- one step of good work
-step-good : (reading : Reading) (g : Setting) → IsSound g → (rest : Rest) (s : State) → GoodWork g rest s → GoodAt g (step_from reading g rest s)
+pub step-good : (reading : Reading) (g : Setting) → IsSound g → (rest : Rest) (s : State) → GoodWork g rest s → GoodAt g (step_from reading g rest s)
 step-good reading g sound (Over at) s work = tt
 step-good reading g sound (Next at line form rest) s work =
     let good = work.good in
@@ -171,7 +171,7 @@ go-good g next each (Halted trap s) good = good
 go-good g next each Ended good = tt
 
 -- so many steps
-steps-good : (reading : Reading) (g : Setting) → IsSound g → (count : ℕ) (rest : Rest) (s : State) → GoodWork g rest s → GoodAt g (steps reading g count (record { rest = rest; state = s }))
+pub steps-good : (reading : Reading) (g : Setting) → IsSound g → (count : ℕ) (rest : Rest) (s : State) → GoodWork g rest s → GoodAt g (steps reading g count (record { rest = rest; state = s }))
 steps-good reading g sound zero rest s work = work
 steps-good reading g sound (suc n) rest s work =
     go-good g (steps reading g n) (λ w good. steps-good reading g sound n w.rest w.state good) (step_from reading g rest s) (step-good reading g sound rest s work)

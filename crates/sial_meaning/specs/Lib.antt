@@ -24,6 +24,8 @@ pub mod DeedLaws
 pub mod DeedSums
 pub mod ToCome
 pub mod ToComeLaws
+pub mod Passed
+pub mod AlongLaws
 pub mod Laws
 pub mod EpochLaws
 pub mod AcceptedLaws

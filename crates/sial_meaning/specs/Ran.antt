@@ -1,5 +1,5 @@
 -- The deeds of an iteration: a fold over its body, from what the worker holds, the copies and the epochs alone.
-use Rattle.std.specs.Prelude.{ℕ, zero, suc, List, [], ◌∷◌, ◌++◌, map, Bool, true, false, Option, Some, None, Ok, Err, replicate, length, slice_index_or}
+use Rattle.std.specs.Prelude.{ℕ, zero, suc, List, [], ◌∷◌, ◌++◌, map, Bool, true, false, Option, Some, None, Ok, Err, replicate, length, slice_index_or, if◌then◌else◌}
 use Rattle.sial_syntax.specs.declared.access.Access.{Access}
 use Rattle.sial_syntax.specs.declared.access.Access.TheVariants.{Read}
 use Rattle.sial_syntax.specs.declared.classes.ScalarClass.{ScalarClass}
@@ -7,6 +7,7 @@ use Rattle.sial_syntax.specs.declared.classes.ScalarClass.TheVariants.{Replicate
 use Rattle.sial_syntax.specs.declared.condition.Cond.{Cond}
 use Rattle.sial_syntax.specs.declared.operand.BlockRef.{BlockRef}
 use Rattle.sial_syntax.specs.declared.operand.Target.TheVariants as target
+use Rattle.sial_syntax.specs.Sides.{accumulates}
 use Rattle.sial_syntax.specs.Tree.{Block, End, Then, Plain, Do, DoIn, Pardo, If, IfElse, Call, Assign, Get, Request, Put, Prepare}
 use Rattle.sial_meaning.specs.declared.trap.Trap.{Trap}
 use Rattle.sial_meaning.specs.declared.trap.TrapKind.{TrapKind}
@@ -90,9 +91,9 @@ added_to Replicated scalar number = []
 added_to Private scalar number = []
 added_to Partial scalar number = Adds scalar number ∷ []
 
--- what a statement adds to a partial scalar: what it made of 0
+-- what an assignment that only adds or subtracts adds to a partial scalar: what it made of 0
 abbrev pub additions : Setting → Plain → (partials : List ℕ) → List Deed
-additions g (Assign (target.Scalar s) op right) partials = added_to (scalar_class g s) s (slice_index_or partials s 0)
+additions g (Assign (target.Scalar s) op right) partials = if accumulates op then added_to (scalar_class g s) s (slice_index_or partials s 0) else []
 additions g form partials = []
 
 -- a local statement behind its reads

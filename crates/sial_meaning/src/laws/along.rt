@@ -1,0 +1,23 @@
+//! What holds along the course: epochs, copies, blocks and counts.
+
+ghost use Rattle.sial_meaning.specs.AlongLaws.{BlocksAreCopiesWritten, CountsRise, EpochsRise, OneEpochOneCopy, PointsAreWhole, SameCountsOnePoint, StepsTouchInTheirEpochs, SyncsSayEpochs};
+
+/// Epochs never fall, each has one copy, accesses carry the epochs of their points, and the blocks are the copies with what was written since.
+pub fn epochs_along_the_course()
+    ensures rise { EpochsRise }
+    ensures copies { OneEpochOneCopy }
+    ensures touches { StepsTouchInTheirEpochs }
+    ensures blocks { BlocksAreCopiesWritten }
+{}
+
+/// Counts of sync points and pardos never fall, they say the epochs, and tell the points at which workers meet or enter a pardo.
+pub fn counts_along_the_course()
+    ensures rise { CountsRise }
+    ensures epochs { SyncsSayEpochs }
+    ensures points { SameCountsOnePoint }
+{}
+
+/// Each point of the course of a sound setting is whole, behind noted traps too.
+pub fn points_are_whole()
+    ensures { PointsAreWhole }
+{}
