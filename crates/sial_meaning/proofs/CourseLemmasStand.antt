@@ -10,7 +10,7 @@ use Rattle.sial_syntax.proofs.SideLemmas.{sides_of, outside, placed, main_stands
 use Rattle.sial_syntax.specs.declared.array.ArrayDecl.{ArrayDecl}
 use Rattle.sial_syntax.specs.declared.array.ArrayKind.{ArrayKind}
 use Rattle.sial_syntax.specs.declared.array.ArrayKind.TheVariants.{Static, Temp, Local, Distributed, Served}
-use Rattle.sial_syntax.specs.declared.classes.ScalarClass.TheVariants.{Replicated}
+use Rattle.sial_syntax.specs.declared.classes.ScalarClass.TheVariants.{Replicated, Partial}
 use Rattle.sial_syntax.specs.declared.classes.Side.TheVariants.{Unused}
 use Rattle.sial_syntax.specs.declared.operand.Target.TheVariants as target
 use Rattle.sial_syntax.specs.Agreeing.{has_kind}
@@ -20,13 +20,13 @@ use Rattle.sial_syntax.specs.Proper.{proper_form, proper_right, has_scalar}
 use Rattle.sial_syntax.specs.Shapes.{breaks_kind, wrong_loop, wrong_where, wrong_dims, wrong_slots, wrong_array, wrong_form}
 use Rattle.sial_syntax.specs.Sides.{Sides, Sided, sides_at, called_by, is_inner, scalar_classes, array_sides}
 use Rattle.sial_syntax.specs.Sides as sides
-use Rattle.sial_syntax.specs.SideRules.{is_pardo, is_sync, is_print, arrays_written, depth_of, calls_of}
+use Rattle.sial_syntax.specs.SideRules.{is_pardo, is_sync, is_print, sets_zero, arrays_written, depth_of, calls_of}
 use Rattle.sial_syntax.specs.Spaces.{same_kind}
 use Rattle.sial_syntax.specs.Tree.{Tree, Procedure, Block, End, Then, Plain, Do, DoIn, Pardo, If, IfElse, Assign, Allocate, Deallocate, Collective}
 use Rattle.sial_syntax.specs.Visits.{Visit, visits, inner_visits, body_visits, all_visits}
 use Rattle.sial_meaning.specs.Sound.{IsGrantedSetting}
-use Rattle.sial_meaning.specs.Setting.{Setting, array_kind, no_array, procedure_body}
-use Rattle.sial_meaning.proofs.AccumulationLemmas.{accumulates_so}
+use Rattle.sial_meaning.specs.Setting.{Setting, array_kind, no_array, procedure_body, scalar_class}
+use Rattle.sial_meaning.proofs.AccumulationLemmas.{accumulates_so, zeroes_so}
 use Rattle.sial_meaning.proofs.ControlLemmasStatement.{Calm}
 use Rattle.sial_meaning.proofs.RestLemmasRules.{granted_kinds}
 use Rattle.sial_meaning.proofs.PairLemmas.{second-fails}
@@ -192,6 +192,7 @@ module _ (g : Setting) (set : IsGrantedSetting g) where
     pub inner : v.within ≡ true → (q : ℕ) → Among q (called_by v.form) → CalledWithin q
     pub outer : v.within ≡ false → (q : ℕ) → Among q (called_by v.form) → CalledOutside q
     pub shallow : (q : ℕ) → Among q (called_by v.form) → shallow g.program d q ≡ true
+    pub zero : v.within ≡ false → (scalar : ℕ) → Among scalar (scalars_written v.form) → scalar_class g scalar ≡ Partial → sets_zero v.form ≡ true
 
   -- a statement of a body of such sides
   outer_at : (d : ℕ) (s : Sides) (v : Visit) → s.outer ≡ true → Among (placed s v) (sides.all_sided g.program) → Among v (all_visits g.program) → IsTrue (proper_form g.program v.form) → ((q : ℕ) → Among q (called_by v.form) → shallow g.program d q ≡ true) → Outer d v
@@ -203,6 +204,15 @@ module _ (g : Setting) (set : IsGrantedSetting g) where
       call_gives g.program set.proper (granted_once g.program set.granted) false (placed s v) q stands c (without_outer v.within s without out),
     );
     shallow = flat;
+    zero = λ without scalar written same.
+        zeroes_so
+        g.program
+        (placed s v)
+        scalar
+        (granted_at g.program set.granted (placed s v) stands).scalar
+        (without_outer v.within s without out)
+        written
+        (sym (ap (λ cs. slice_index_or cs scalar Replicated) set.scalars) ∙ same);
   }
 
   -- the program's own statements

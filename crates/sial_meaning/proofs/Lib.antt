@@ -18,6 +18,7 @@ pub mod AlongLemmas
 pub mod AlongDeeds
 pub mod FlagsKept
 pub mod AlongWhole
+pub mod ResetLemmas
 pub mod AccumulationLemmas
 pub mod RestLemmas
 pub mod RestLemmasBound

@@ -26,6 +26,7 @@ pub mod ToCome
 pub mod ToComeLaws
 pub mod Passed
 pub mod AlongLaws
+pub mod Resets
 pub mod Laws
 pub mod EpochLaws
 pub mod AcceptedLaws

@@ -19,6 +19,7 @@ pub record Grants (p : Tree) (x : Sided) : Type 0 where
   pub sync : breaks_sync x ≡ false
   pub print : breaks_print x ≡ false
   pub static : breaks_static p x ≡ false
+  pub scalar : breaks_scalar (scalar_classes p) x ≡ false
   pub deep : breaks_depth p x ≡ false
 
 -- no first fault is no fault
@@ -65,6 +66,7 @@ granted_at p granted x m =
       sync = unbroken_at 3 breaks_sync x all to_b.1 m;
       print = unbroken_at 4 breaks_print x all to_c.1 m;
       static = unbroken_at 5 (breaks_static p) x all to_d.1 m;
+      scalar = unbroken_at 7 (breaks_scalar (scalar_classes p)) x all to_f.1 m;
       deep = unbroken_at 10 (breaks_depth p) x all to_h.1 m;
     }
 

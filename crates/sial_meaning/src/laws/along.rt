@@ -1,6 +1,7 @@
 //! What holds along the course: epochs, copies, blocks and counts.
 
 ghost use Rattle.sial_meaning.specs.AlongLaws.{BlocksAreCopiesWritten, CountsRise, EpochsRise, OneEpochOneCopy, PointsAreWhole, SameCountsOnePoint, StepsTouchInTheirEpochs, SyncsSayEpochs};
+ghost use Rattle.sial_meaning.specs.Resets.{PartialsAreSums};
 
 /// Epochs never fall, each has one copy, accesses carry the epochs of their points, and the blocks are the copies with what was written since.
 pub fn epochs_along_the_course()
@@ -20,4 +21,9 @@ pub fn counts_along_the_course()
 /// Each point of the course of a sound setting is whole, behind noted traps too.
 pub fn points_are_whole()
     ensures { PointsAreWhole }
+{}
+
+/// At each point of the course the number of a partial scalar is the sum of the additions behind its last reset.
+pub fn partials_are_sums()
+    ensures { PartialsAreSums }
 {}

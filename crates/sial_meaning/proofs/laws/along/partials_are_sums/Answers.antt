@@ -1,0 +1,5 @@
+use Rattle.sial_meaning.proofs.ResetLemmas.{partials_are_sums}
+use Rattle.sial_meaning.proofs.laws.along.partials_are_sums.Goals as goal
+
+pub returns : goal.returns
+returns c = partials_are_sums
