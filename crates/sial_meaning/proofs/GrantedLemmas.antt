@@ -38,11 +38,11 @@ fails-at f (y ∷ ys) (suc k) x none below is =
     fails-at f ys k x (kept_none (f y) y (filter f ys) none).1 rest is
 
 -- so it does at what the list has
-fails-in : {X : Type 0} (f : X → Bool) (xs : List X) (x : X) → filter f xs ≡ [] → Contains xs x → f x ≡ false
+pub fails-in : {X : Type 0} (f : X → Bool) (xs : List X) (x : X) → filter f xs ≡ [] → Contains xs x → f x ≡ false
 fails-in f xs x none has = fails-at f xs has.0 x none has.1 has.2
 
 -- whether blocks of a statement name an index twice, or its slots
-abbrev repeats : Plain → Bool
+abbrev pub repeats : Plain → Bool
 repeats form = list_any (λ (b : BlockRef). has_twice b.at) (blocks_named form) || has_twice (flat_map slot_index (slots_named form))
 
 -- what one block assigned to another says

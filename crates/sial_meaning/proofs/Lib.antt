@@ -29,6 +29,8 @@ pub mod RestLemmasRules
 pub mod RestLemmasTurns
 pub mod GrantedLemmas
 pub mod CopyLemmas
+pub mod JoinLemmas
+pub mod JoinGranted
 pub mod SegmentLemmas
 pub mod LookLemmas
 pub mod WholeLemmas

@@ -45,7 +45,7 @@ as-many-elements spaces op target side =
     ∙ tuples-counted (lengths target.extents)
 
 -- a block's element where its positions lie on it
-element-is : (spaces : Spaces) (places : Places) (source : Sight) (ps : List ℕ) → positions_of spaces places source ≡ ps → all_lie source.extents ps ≡ true → element spaces places source ≡ Some (word_of source ps)
+pub element-is : (spaces : Spaces) (places : Places) (source : Sight) (ps : List ℕ) → positions_of spaces places source ≡ ps → all_lie source.extents ps ≡ true → element spaces places source ≡ Some (word_of source ps)
 element-is spaces places source ps are lie =
     ap (λ x. if all_lie source.extents x then Some (word_at source (offsets source.extents x)) else None) are
     ∙ ap (λ (b : Bool). if b then Some (word_at source (offsets source.extents ps)) else None) lie
@@ -87,7 +87,7 @@ under-whole spaces values (j ∷ is) (k ∷ ks) i in-is are =
     ] refl
 
 -- the positions of indices that all stand in the target
-named-positions : (spaces : Spaces) (values to tuple own : List ℕ) → has_twice to ≡ false → IsTupleOf (lengths (map (extent spaces values) to)) tuple → (from : List ℕ) → all_in from to ≡ true
+pub named-positions : (spaces : Spaces) (values to tuple own : List ℕ) → has_twice to ≡ false → IsTupleOf (lengths (map (extent spaces values) to)) tuple → (from : List ℕ) → all_in from to ≡ true
     → map (position spaces own (zip to (whole_positions (map (extent spaces values) to) tuple))) from ≡ map (λ i. (extent spaces values i).start + under to tuple i) from
 named-positions spaces values to tuple own once are [] in-to = refl
 named-positions spaces values to tuple own once are (i ∷ is) in-to =
@@ -100,7 +100,7 @@ named-positions spaces values to tuple own once are (i ∷ is) in-to =
     ∙ ap (λ rest. ((extent spaces values i).start + under to tuple i) ∷ rest) (named-positions spaces values to tuple own once are is (second-holds (contains to i) (all_in is to) in-to))
 
 -- they lie on their extents
-named-lie : (spaces : Spaces) (values to tuple : List ℕ) → IsTupleOf (lengths (map (extent spaces values) to)) tuple → (from : List ℕ) → all_in from to ≡ true
+pub named-lie : (spaces : Spaces) (values to tuple : List ℕ) → IsTupleOf (lengths (map (extent spaces values) to)) tuple → (from : List ℕ) → all_in from to ≡ true
     → all_lie (map (extent spaces values) from) (map (λ i. (extent spaces values i).start + under to tuple i) from) ≡ true
 named-lie spaces values to tuple are [] in-to = refl
 named-lie spaces values to tuple are (i ∷ is) in-to =
@@ -112,7 +112,7 @@ named-lie spaces values to tuple are (i ∷ is) in-to =
     (named-lie spaces values to tuple are is (second-holds (contains to i) (all_in is to) in-to))
 
 -- and their offsets are the tuple's members
-named-offsets : (spaces : Spaces) (values to tuple from : List ℕ) → offsets (map (extent spaces values) from) (map (λ i. (extent spaces values i).start + under to tuple i) from) ≡ map (under to tuple) from
+pub named-offsets : (spaces : Spaces) (values to tuple from : List ℕ) → offsets (map (extent spaces values) from) (map (λ i. (extent spaces values i).start + under to tuple i) from) ≡ map (under to tuple) from
 named-offsets spaces values to tuple [] = refl
 named-offsets spaces values to tuple (i ∷ is) =
     let back : ((extent spaces values i).start + under to tuple i) - (extent spaces values i).start ≡ under to tuple i = omega arith in

@@ -36,5 +36,6 @@ pub mod WholeStates
 pub mod HeldLaws
 pub mod ReadBackLaws
 pub mod CopyLaws
+pub mod JoinLaws
 pub mod MarkLaws
 pub mod CourseLaws

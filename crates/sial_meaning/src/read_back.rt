@@ -2,6 +2,7 @@
 
 ghost use Rattle.sial_meaning.specs.CopyLaws.{CopiesReadBack, EachIsOneOfThree, InsertionsLeaveTheRest, InsertionsReadBack, SlicesReadBack};
 ghost use Rattle.sial_meaning.specs.HeldLaws.{AssignmentsAreHeld};
+ghost use Rattle.sial_meaning.specs.JoinLaws.{ContractionsByName, ContractionsReadBack, ContractionsToNumbers, DifferencesByName, DifferencesReadBack, FillsEverywhere, OuterProductsByName, OuterProductsReadBack, ScalingsByName, ScalingsReadBack, SumsByName, SumsReadBack};
 ghost use Rattle.sial_meaning.specs.ReadBackLaws.{AsManyElements, CopiesByName, EachElementIsMet, InsertionsKeepOthers, InsertsByPosition, SlicesByPosition};
 
 /// Every element of the result, whatever the right side is.
@@ -25,6 +26,26 @@ pub fn granted_copies_read_back()
     ensures slice { SlicesReadBack }
     ensures insertion { InsertionsReadBack }
     ensures rest { InsertionsLeaveTheRest }
+{}
+
+/// Two blocks added, subtracted or multiplied, and a block scaled, by the names of indices.
+pub fn joins_read_back()
+    ensures sums { SumsByName }
+    ensures differences { DifferencesByName }
+    ensures outer_products { OuterProductsByName }
+    ensures contractions { ContractionsByName }
+    ensures numbers { ContractionsToNumbers }
+    ensures scalings { ScalingsByName }
+    ensures fills { FillsEverywhere }
+{}
+
+/// The same by a statement of a program that the rules grant.
+pub fn granted_joins_read_back()
+    ensures sums { SumsReadBack }
+    ensures differences { DifferencesReadBack }
+    ensures outer_products { OuterProductsReadBack }
+    ensures contractions { ContractionsReadBack }
+    ensures scalings { ScalingsReadBack }
 {}
 
 /// What an assignment to a block leaves is what its target reads from then on.
