@@ -35,3 +35,4 @@ pub mod ReadBackLaws
 pub mod CopyLaws
 pub mod MarkLaws
 pub mod CourseLaws
+pub mod NumberStates
