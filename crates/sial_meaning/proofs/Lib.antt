@@ -70,3 +70,7 @@ pub mod CourseLemmasPardo
 pub mod CourseLemmasKept
 pub mod CourseLemmasSteps
 pub mod CourseLemmasWalk
+pub mod NumberLemmas
+pub mod NumberStatements
+pub mod NumberStart
+pub mod NumberSteps

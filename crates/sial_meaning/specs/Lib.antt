@@ -39,3 +39,4 @@ pub mod CopyLaws
 pub mod JoinLaws
 pub mod MarkLaws
 pub mod CourseLaws
+pub mod NumberStates

@@ -4,6 +4,7 @@
 pub mod acceptance;
 mod clash;
 pub mod laws;
+pub mod numbers;
 pub mod read_back;
 mod standing;
 mod trap;

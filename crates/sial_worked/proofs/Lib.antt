@@ -4,3 +4,4 @@ mod FeaturesRun
 mod RulesAre
 mod EpochsAre
 mod CostsAre
+mod BoundsHold

@@ -48,3 +48,4 @@ pub mod TwoFaults
 pub mod Later
 pub mod Deep
 pub mod Counted
+pub mod Bounds

@@ -3,6 +3,7 @@
 ghost use Rattle.sial_worked.specs.Again.{AgainRuns};
 ghost use Rattle.sial_worked.specs.Apart.{ApartRuns};
 ghost use Rattle.sial_worked.specs.Barrier.{BarrierRuns};
+ghost use Rattle.sial_worked.specs.Bounds.{ConstantsAreAnInputs, NumbersAreBounded};
 ghost use Rattle.sial_worked.specs.Chain.{ChainIsRefused};
 ghost use Rattle.sial_worked.specs.Chunks.{ChunksRuns, ChunksThreeRuns, ChunksNoneRuns};
 ghost use Rattle.sial_worked.specs.Clash.{ClashByEpochs, ClashRuns, ClashAddRuns, ClashMaxRuns};
@@ -63,6 +64,12 @@ pub fn worked_rules()
     ensures two_statements { TwoStatementsOnOneLine }
     ensures first_line { FirstLineFirst }
     ensures earlier_line { EarlierLineFirst }
+{}
+
+/// Which numbers and lines a tree may have, and which constants an input may give.
+pub fn worked_bounds()
+    ensures numbers { NumbersAreBounded }
+    ensures constants { ConstantsAreAnInputs }
 {}
 
 /// Epoch meanings and their courses, where these part from the sequential meaning or go on behind a trap.

@@ -1,0 +1,5 @@
+use Rattle.sial_meaning.proofs.NumberSteps.{reached-states-have-numbers}
+use Rattle.sial_meaning.proofs.numbers.states_have_numbers.Goals as goal
+
+pub returns : goal.returns
+returns c = reached-states-have-numbers
