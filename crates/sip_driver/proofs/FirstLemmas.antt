@@ -78,7 +78,8 @@ again_in p i path h =
     (input_again i path h.input_is)
     ∙ ap (λ r. only_if r path) (ranges_again (length path.lengths) path.program.indices h.ranges)
 
-runs_in : (p i : List ℕ) (path : Path) → IsFirst p i path → IsPath path
+-- two texts of the first profile are a program that can run
+pub runs_in : (p i : List ℕ) (path : Path) → IsFirst p i path → IsPath path
 runs_in p i path h =
     let fine : IsFineTree path.program = fine_built h.program_is.lines path.program h.program_is.sound h.program_is.built in
     record { indices = h.ranges; arrays = fine.arrays; body = fine.body; lengths = h.input_is.within; few_lengths = h.input_is.few }

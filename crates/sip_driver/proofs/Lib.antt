@@ -27,3 +27,4 @@ mod TextLemmas
 mod TreeLemmas
 mod InputLemmas
 mod RunsLemmas
+mod ThroughLemmas

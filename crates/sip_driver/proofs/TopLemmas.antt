@@ -1,19 +1,14 @@
 -- What two loads show of the texts.
-use Rattle.std.proofs.Common.{◌≡◌, ℕ, ◌≤◌, ◌⊎◌, List, Option, Some, None, length, subst, inl, inr, arith}
+use Rattle.std.proofs.Common.{◌≡◌, ℕ, ◌<◌, ◌≤◌, ◌⊎◌, List, [], ◌∷◌, Option, Some, None, IsSomeAnd, length, subst, inl, inr, arith}
+use Rattle.std.specs.FinMap as map
 use Rattle.sip_files.specs.Files.{Folder, WhereTold}
-use Rattle.sip_driver.specs.Top.{Names, ForTexts, IsUnreadable, IsLong}
+use Rattle.sip_driver.specs.Loads.{Wanted, Loads, after_read, IsReadable, IsUnreadable, AreRead, IsAnyUnreadable}
+use Rattle.sip_driver.specs.Top.{Names, ForTexts}
 
 -- a fact about two texts that were loaded
 pub for_texts : (told : Option Folder) (names : Names) (program input : List ℕ) (fact : List ℕ → List ℕ → Type 0) → WhereTold told names.program (λ held. held ≡ Some program) → WhereTold told names.input (λ held. held ≡ Some input) → fact program input → ForTexts told names fact
 for_texts None names program input fact p i holds = tt
 for_texts (Some files) names program input fact p i holds = (program, input, p, i, holds)
-
--- a file that was loaded within its limit is readable
-pub readable : (told : Option Folder) (name held : List ℕ) (most : ℕ) → WhereTold told name (λ h. h ≡ Some held) → length held ≤ most → IsUnreadable told name most → ⊥
-readable None name held most is within unreadable = unreadable
-readable (Some files) name held most is within (inl absent) = absurd cc
-readable (Some files) name held most is within (inr long) =
-    let much : IsLong (Some held) most = subst (λ (h : Option (List ℕ)). IsLong h most) is long in absurd (omega (arith, much, within))
 
 -- a fact about the texts that two loads in a row gave, read as slices
 pub loaded : (told between : Option Folder) (names : Names) (program input first second : List ℕ) (fact : List ℕ → List ℕ → Type 0) → between ≡ told → WhereTold told names.program (λ held. held ≡ Some program) → WhereTold between names.input (λ held. held ≡ Some input) → first ≡ program → second ≡ input → fact first second → ForTexts told names fact
@@ -33,3 +28,19 @@ pub kept_or : (told : Option Folder) (names : Names) (old new : Option (List ℕ
 kept_or None names old new fact texts = inr tt
 kept_or (Some files) names old new fact (p, i, has_p, has_i, inl kept) = inl kept
 kept_or (Some files) names old new fact (p, i, has_p, has_i, inr holds) = inr (p, i, has_p, has_i, holds)
+
+-- a file that was read isn't one that can't be
+readable-not : (told : Option Folder) (file : Wanted) → IsReadable told file → IsUnreadable told file → ⊥
+readable-not None file readable unreadable = unreadable
+readable-not (Some files) file readable (inl missing) = subst (λ (held : Option (List ℕ)). IsSomeAnd held (λ h. length h ≤ file.most)) missing readable
+readable-not (Some files) file readable (inr long) = both (map.get files file.name) readable long
+  where
+    both : (held : Option (List ℕ)) → IsSomeAnd held (λ h. length h ≤ file.most) → IsSomeAnd held (λ h. file.most < length h) → ⊥
+    both None short long = short
+    both (Some h) short long = absurd (omega (arith, short, long))
+
+-- where all files were read, none is unreadable
+pub read_not_unreadable : (told : Option Folder) (old new : Loads) (files : List Wanted) → AreRead told old new files → IsAnyUnreadable told files → ⊥
+read_not_unreadable told old new [] read unreadable = unreadable
+read_not_unreadable told old new (file ∷ rest) read (inl this) = readable-not told file read.0 this
+read_not_unreadable told old new (file ∷ rest) read (inr other) = read_not_unreadable told (after_read old) new rest read.1 other

@@ -1,8 +1,10 @@
 pub mod First
 pub mod Top
+pub mod Loads
 pub mod Lines
 pub mod Built
 pub mod Profile
+pub mod FirstLaws
 pub mod Running
 pub mod Ran
 pub mod Reading

@@ -1,11 +1,14 @@
 -- The top call: what its words ask for, and what each of its answers says of the files and the output.
-use Rattle.std.specs.Prelude.{◌≡◌, ℕ, ◌<◌, ◌⊎◌, List, [], ◌∷◌, ◌++◌, length, Option, Some, None, String, string_bytes, codes, Bool, true, false, ◌==◌, if◌then◌else◌}
+use Rattle.std.specs.Prelude.{◌≡◌, ℕ, ◌⊎◌, List, [], ◌∷◌, ◌++◌, Option, Some, None, String, string_bytes, codes, Bool, true, false, ◌==◌, if◌then◌else◌}
 use Rattle.std.specs.FinMap as map
 use Rattle.std.specs.Str.{bytes_eq}
 use Rattle.std.specs.declared.alloc.Global.{Global}
 use Rattle.sip_files.specs.Files.{Folder, Rose}
 use Rattle.sip_files.specs.Sink.{Gains, GainsPart}
 use Rattle.sip_driver.specs.First.{Path, printed_text}
+use Rattle.sip_driver.specs.Loads.{Wanted, Loads, IsFirstUnread, AreRead, RanOut}
+use Rattle.sip_driver.specs.declared.answer.Answer.{Answer}
+use Rattle.sip_driver.specs.declared.answer.Answer.TheVariants as answer
 use Rattle.sip_driver.specs.Profile.{IsFirst}
 
 -- the files that the words name
@@ -31,33 +34,18 @@ most_program = 16777216
 abbrev pub most_input : ℕ
 most_input = 1048576
 
--- what files count: failed loads, and loads that read more than their limit
-pub record Loads : Type 0 where
-  pub failed : ℕ
-  pub overlong : ℕ
+-- the files that `run` reads, in order
+abbrev pub files_of : Names → List Wanted
+files_of names = record { name = names.program; most = most_program } ∷ record { name = names.input; most = most_input } ∷ []
 
--- a file is longer than its limit, as far as the files tell
-abbrev pub IsLong : Option (List ℕ) → (most : ℕ) → Type 0
-IsLong None most = ⊥
-IsLong (Some held) most = most < length held
-
--- a file is missing
-abbrev pub IsAbsent : Option (List ℕ) → Type 0
-IsAbsent held = held ≡ None
-
--- a told file can't be read: it is missing, or longer than its limit
-abbrev pub IsUnreadable : Option Folder → (name : List ℕ) → (most : ℕ) → Type 0
-IsUnreadable None name most = ⊥
-IsUnreadable (Some files) name most = IsAbsent (map.get files name) ⊎ IsLong (map.get files name) most
-
--- why a file wasn't read: it can't be; or, untold, more than its limit was read; or a load failed
-abbrev pub IsUnread : Option Folder → (old new : Loads) → (name : List ℕ) → (most : ℕ) → Type 0
-IsUnread None old new name most = Rose old.failed new.failed ⊎ Rose old.overlong new.overlong
-IsUnread (Some files) old new name most = Rose old.failed new.failed ⊎ IsUnreadable (Some files) name most
-
--- no load was counted as failed, and none as one that read more than its limit
-abbrev pub AreLoaded : (old new : Loads) → Type 0
-AreLoaded old new = (new.failed ≡ old.failed) × (new.overlong ≡ old.overlong)
+-- what became of the loads of these files: all were read, or the first that wasn't is named, or memory ran out
+abbrev pub LoadsOf : Answer → Option Folder → (old new : Loads) → Names → Type 0
+LoadsOf answer.Done told old new names = AreRead told old new (files_of names)
+LoadsOf answer.NoProgram told old new names = IsFirstUnread told old new (files_of names) names.program
+LoadsOf answer.NoInput told old new names = IsFirstUnread told old new (files_of names) names.input
+LoadsOf answer.NotFirst told old new names = AreRead told old new (files_of names)
+LoadsOf answer.NotWritten told old new names = AreRead told old new (files_of names)
+LoadsOf answer.OutOfMemory told old new names = RanOut told old new (files_of names)
 
 -- a fact about the two texts, where the files tell them
 abbrev pub ForTexts : Option Folder → Names → (List ℕ → List ℕ → Type 0) → Type 0
@@ -73,6 +61,10 @@ ForNames (Some names) fact = fact names
 -- the line on a file that wasn't read
 abbrev pub read_line : (name : List ℕ) → List ℕ
 read_line name = codes "sip: read " ++ (name ++ (10 ∷ []))
+
+-- the line names the first of these files that wasn't read
+abbrev pub UnreadNamed : Option Folder → (old new : Loads) → List Wanted → (says : List ℕ → Type 0) → Type 0
+UnreadNamed told old new files says = (name : List ℕ) × IsFirstUnread told old new files name × says (read_line name)
 
 -- the output gained the printed lines of the program that the texts are
 abbrev pub Prints : (old new : Option (List ℕ)) → (program input : List ℕ) → Type 0

@@ -10,6 +10,7 @@ mod declarations;
 mod fault;
 mod first;
 mod input_text;
+mod laws;
 mod line;
 mod lines;
 mod loops;
@@ -27,11 +28,11 @@ mod spelling;
 mod start;
 mod statements;
 mod status;
-#[cfg(test)]
-mod tests;
+mod text;
 mod top;
 mod words;
 
 pub use first::First;
+pub use laws::first_programs_have_no_trap;
 pub use status::Status;
 pub use top::sip;

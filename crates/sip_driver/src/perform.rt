@@ -3,13 +3,15 @@
 ghost use Rattle.std.specs.Prelude.{◌≡◌, ◌≢◌, ◌≤◌, ◌⊎◌};
 ghost use Rattle.sip_files.specs.Files.{Rose, CountsOnly};
 ghost use Rattle.sip_files.specs.declared.call.Call.TheVariants.{Load};
-ghost use Rattle.sip_driver.specs.Top.{Names, Loads, ForTexts, AreLoaded, IsUnread, IsUnreadable, Prints, PrintsPart, PrintsSome, IsNotFirst, most_program, most_input};
+ghost use Rattle.sip_driver.specs.Loads.{loads};
+ghost use Rattle.sip_driver.specs.Top.{Names, LoadsOf, ForTexts, Prints, PrintsPart, PrintsSome, IsNotFirst};
 
 use crate::answer::Answer;
 use crate::fault::RunFault;
 use crate::reader::read_first;
 use crate::run::run;
-use sip_files::{Files, LoadFault, Sink};
+use crate::text::{TextFault, load_text};
+use sip_files::{Files, Sink};
 use std::alloc::Global;
 
 const MOST_PROGRAM: u64 = 16_777_216;
@@ -17,7 +19,7 @@ const MOST_PROGRAM: u64 = 16_777_216;
 const MOST_INPUT: u64 = 1_048_576;
 
 /// Loads two files and runs them, if their texts are of the first profile.
-#[tactic(auto, using(crate::proofs::TopLemmas::for_texts, crate::proofs::TopLemmas::readable))]
+#[tactic(auto, using(crate::proofs::TopLemmas::for_texts))]
 pub fn perform<F: Files, K: Sink>(
     alloc: Global,
     program: &str,
@@ -25,21 +27,12 @@ pub fn perform<F: Files, K: Sink>(
     files: &mut F,
     out: &mut K,
 ) -> Answer
+    ensures loads { LoadsOf result (F.told files.old) (loads (F.came files.old) (F.faults files.old) (F.overlong files.old)) (loads (F.came files.new) (F.faults files.new) (F.overlong files.new)) (record { program = program.now; input = input.now }) }
+
     ensures done { result ≡ Answer.Done → ForTexts (F.told files.old) (record { program = program.now; input = input.now }) (Prints (K.written out.old) (K.written out.new)) }
     ensures not_first { result ≡ Answer.NotFirst → ForTexts (F.told files.old) (record { program = program.now; input = input.now }) IsNotFirst }
     ensures not_written { result ≡ Answer.NotWritten → ForTexts (F.told files.old) (record { program = program.now; input = input.now }) (PrintsPart (K.written out.old) (K.written out.new)) }
     ensures cause { result ≡ Answer.NotWritten → Rose (K.faults out.old) (K.faults out.new) }
-
-    // A file is not read only for a cause, and a told one that can't be read is not.
-    ensures no_program { result ≡ Answer.NoProgram → IsUnread (F.told files.old) (record { failed = F.faults files.old Load; overlong = F.overlong files.old }) (record { failed = F.faults files.new Load; overlong = F.overlong files.new }) program.now most_program }
-    ensures no_input { result ≡ Answer.NoInput → IsUnread (F.told files.old) (record { failed = F.faults files.old Load; overlong = F.overlong files.old }) (record { failed = F.faults files.new Load; overlong = F.overlong files.new }) input.now most_input }
-    ensures program_unreadable { IsUnreadable (F.told files.old) program.now most_program → (result ≡ Answer.NoProgram) ⊎ (result ≡ Answer.OutOfMemory) }
-    ensures input_unreadable { IsUnreadable (F.told files.old) input.now most_input → (result ≡ Answer.NoProgram) ⊎ ((result ≡ Answer.NoInput) ⊎ (result ≡ Answer.OutOfMemory)) }
-
-    // The texts are looked at once both loads answered Ok, so none of the two was counted.
-    ensures done_loaded { result ≡ Answer.Done → AreLoaded (record { failed = F.faults files.old Load; overlong = F.overlong files.old }) (record { failed = F.faults files.new Load; overlong = F.overlong files.new }) }
-    ensures not_first_loaded { result ≡ Answer.NotFirst → AreLoaded (record { failed = F.faults files.old Load; overlong = F.overlong files.old }) (record { failed = F.faults files.new Load; overlong = F.overlong files.new }) }
-    ensures not_written_loaded { result ≡ Answer.NotWritten → AreLoaded (record { failed = F.faults files.old Load; overlong = F.overlong files.old }) (record { failed = F.faults files.new Load; overlong = F.overlong files.new }) }
 
     // The output is touched by a run alone.
     ensures no_program_kept { result ≡ Answer.NoProgram → K.written out.new ≡ K.written out.old }
@@ -53,18 +46,16 @@ pub fn perform<F: Files, K: Sink>(
     ensures never_falls { K.faults out.old ≤ K.faults out.new }
     ensures kept { K.kept out.new ≡ K.kept out.old }
 {
-    let mut program_text = Vec::new(alloc);
-    match files.load(program, &mut program_text, MOST_PROGRAM) {
-        Ok(()) => {}
-        Err(LoadFault::OutOfMemory) => return Answer::OutOfMemory,
-        Err(_) => return Answer::NoProgram,
-    }
-    let mut input_text = Vec::new(alloc);
-    match files.load(input, &mut input_text, MOST_INPUT) {
-        Ok(()) => {}
-        Err(LoadFault::OutOfMemory) => return Answer::OutOfMemory,
-        Err(_) => return Answer::NoInput,
-    }
+    let program_text = match load_text(alloc, files, program, MOST_PROGRAM) {
+        Ok(text) => text,
+        Err(TextFault::Unread) => return Answer::NoProgram,
+        Err(TextFault::OutOfMemory) => return Answer::OutOfMemory,
+    };
+    let input_text = match load_text(alloc, files, input, MOST_INPUT) {
+        Ok(text) => text,
+        Err(TextFault::Unread) => return Answer::NoInput,
+        Err(TextFault::OutOfMemory) => return Answer::OutOfMemory,
+    };
     run_texts(alloc, program_text.as_slice(), input_text.as_slice(), out)
 }
 

@@ -3,7 +3,8 @@
 ghost use Rattle.std.specs.Prelude.{◌≡◌, ◌≢◌, ◌≤◌, ◌↔◌, ◌⊎◌, Some, None};
 ghost use Rattle.sip_files.specs.Files.{Rose, CountsOnly};
 ghost use Rattle.sip_files.specs.declared.call.Call.TheVariants.{Load};
-ghost use Rattle.sip_driver.specs.Top.{Names, Loads, asked, ForNames, ForTexts, AreLoaded, IsUnread, IsUnreadable, IsNotFirst, Prints, PrintsPart, Says, read_line, line_of, IsAnswer, most_program, most_input};
+ghost use Rattle.sip_driver.specs.Loads.{loads, AreRead, RanOut, IsAnyUnreadable};
+ghost use Rattle.sip_driver.specs.Top.{Names, asked, files_of, ForNames, ForTexts, UnreadNamed, IsNotFirst, Prints, PrintsPart, Says, line_of, IsAnswer};
 
 use crate::answer::Answer;
 use crate::perform::perform;
@@ -16,6 +17,7 @@ use std::alloc::Global;
 /// Does what the words ask for: `sip run <program> <input>` runs a program of the first profile.
 ///
 /// The output gains the printed lines, each as it comes; a refusal has its one line on `err`.
+#[tactic(auto, using(crate::proofs::TopLemmas::read_not_unreadable))]
 pub fn sip<F: Files, K: Sink>(
     alloc: Global,
     words: &[String],
@@ -25,19 +27,16 @@ pub fn sip<F: Files, K: Sink>(
 ) -> Status
     ensures usage { (result.0 ≡ 1) ↔ (asked words.now ≡ None) }
 
-    // A file is not read only for a cause, which the line names, and a told one that can't be read is not.
-    ensures read { result.0 ≡ 2 → ForNames (asked words.now) (λ names.
-        (IsUnread (F.told files.old) (record { failed = F.faults files.old Load; overlong = F.overlong files.old }) (record { failed = F.faults files.new Load; overlong = F.overlong files.new }) names.program most_program
-        × Says (K.written err.old) (K.written err.new) (K.faults err.old) (K.faults err.new) (read_line names.program))
-        ⊎ (IsUnread (F.told files.old) (record { failed = F.faults files.old Load; overlong = F.overlong files.old }) (record { failed = F.faults files.new Load; overlong = F.overlong files.new }) names.input most_input
-        × Says (K.written err.old) (K.written err.new) (K.faults err.old) (K.faults err.new) (read_line names.input))) }
-    ensures program_unreadable { (names : Names) → asked words.now ≡ Some names → IsUnreadable (F.told files.old) names.program most_program → (result.0 ≡ 2) ⊎ (result.0 ≡ 13) }
-    ensures input_unreadable { (names : Names) → asked words.now ≡ Some names → IsUnreadable (F.told files.old) names.input most_input → (result.0 ≡ 2) ⊎ (result.0 ≡ 13) }
+    // The first file that isn't read is the one that the line names; a told file that can't be read is not.
+    ensures read { result.0 ≡ 2 → ForNames (asked words.now) (λ names. UnreadNamed (F.told files.old) (loads (F.came files.old) (F.faults files.old) (F.overlong files.old)) (loads (F.came files.new) (F.faults files.new) (F.overlong files.new)) (files_of names) (Says (K.written err.old) (K.written err.new) (K.faults err.old) (K.faults err.new))) }
+    ensures unreadable { (names : Names) → asked words.now ≡ Some names → IsAnyUnreadable (F.told files.old) (files_of names) → (result.0 ≡ 2) ⊎ (result.0 ≡ 13) }
 
-    // The texts are looked at once both loads answered Ok, so none of the two was counted.
-    ensures ok_loaded { result.0 ≡ 0 → AreLoaded (record { failed = F.faults files.old Load; overlong = F.overlong files.old }) (record { failed = F.faults files.new Load; overlong = F.overlong files.new }) }
-    ensures syntax_loaded { result.0 ≡ 3 → AreLoaded (record { failed = F.faults files.old Load; overlong = F.overlong files.old }) (record { failed = F.faults files.new Load; overlong = F.overlong files.new }) }
-    ensures write_loaded { result.0 ≡ 10 → AreLoaded (record { failed = F.faults files.old Load; overlong = F.overlong files.old }) (record { failed = F.faults files.new Load; overlong = F.overlong files.new }) }
+    // The texts are looked at once all files were read, in their order; other words load none.
+    ensures usage_loads { result.0 ≡ 1 → (loads (F.came files.new) (F.faults files.new) (F.overlong files.new)) ≡ (loads (F.came files.old) (F.faults files.old) (F.overlong files.old)) }
+    ensures ok_loads { result.0 ≡ 0 → ForNames (asked words.now) (λ names. AreRead (F.told files.old) (loads (F.came files.old) (F.faults files.old) (F.overlong files.old)) (loads (F.came files.new) (F.faults files.new) (F.overlong files.new)) (files_of names)) }
+    ensures syntax_loads { result.0 ≡ 3 → ForNames (asked words.now) (λ names. AreRead (F.told files.old) (loads (F.came files.old) (F.faults files.old) (F.overlong files.old)) (loads (F.came files.new) (F.faults files.new) (F.overlong files.new)) (files_of names)) }
+    ensures write_loads { result.0 ≡ 10 → ForNames (asked words.now) (λ names. AreRead (F.told files.old) (loads (F.came files.old) (F.faults files.old) (F.overlong files.old)) (loads (F.came files.new) (F.faults files.new) (F.overlong files.new)) (files_of names)) }
+    ensures memory_loads { result.0 ≡ 13 → ForNames (asked words.now) (λ names. RanOut (F.told files.old) (loads (F.came files.old) (F.faults files.old) (F.overlong files.old)) (loads (F.came files.new) (F.faults files.new) (F.overlong files.new)) (files_of names)) }
     ensures syntax { result.0 ≡ 3 → ForNames (asked words.now) (λ names. ForTexts (F.told files.old) names IsNotFirst) }
 
     // A program of the first profile runs: the output gains all printed lines, or a first part of them.

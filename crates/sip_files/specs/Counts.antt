@@ -1,10 +1,8 @@
 -- A count for each kind of call.
-use Rattle.std.specs.Prelude.{ℕ, Result, Ok, Err}
+use Rattle.std.specs.Prelude.{ℕ}
 use Rattle.sip_files.specs.declared.call.Call.{Call}
 use Rattle.sip_files.specs.declared.call.Call.TheVariants.{Load, Clear, Append, ReadAt, WriteAt}
-use Rattle.sip_files.specs.Plan.{one_more}
-use Rattle.sip_files.specs.declared.fault.LoadFault.{LoadFault}
-use Rattle.sip_files.specs.declared.fault.LoadFault.TheVariants.{Failed, Missing, TooLong, OutOfMemory}
+use Rattle.sip_files.specs.Files.{one_more}
 use Rattle.sip_files.specs.declared.counts.Counts.{Counts}
 
 -- the count of one kind
@@ -27,15 +25,8 @@ with_one_more counts WriteAt = record counts { write_at = one_more counts.write_
 abbrev pub no_faults : Counts
 no_faults = record { load = 0; clear = 0; append = 0; read_at = 0; write_at = 0 }
 
--- what the host's files count: faults of each kind, and loads that read more than their limit
+-- what the host's files count: faults of each kind, loads that came, and loads that refused a file as too long
 pub record HostCounts : Type 0 where
   pub faults : Counts
+  pub came : ℕ
   pub overlong : ℕ
-
--- what the host's files count of a load: each failure, each load that read more than its limit, and nothing else
-abbrev pub after_answer : HostCounts → Result (Unit {0}) LoadFault → HostCounts
-after_answer counts (Ok done) = counts
-after_answer counts (Err Failed) = record counts { faults = with_one_more counts.faults Load }
-after_answer counts (Err Missing) = counts
-after_answer counts (Err TooLong) = record counts { overlong = one_more counts.overlong }
-after_answer counts (Err OutOfMemory) = counts

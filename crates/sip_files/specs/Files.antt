@@ -1,10 +1,12 @@
 -- What files tell, what they count, and what a load of one of them may answer.
-use Rattle.std.specs.Prelude.{◌≡◌, ◌≢◌, ℕ, ◌+◌, ◌-◌, ◌^◌, ◌<◌, ◌≤◌, min, List, [], ◌++◌, length, Option, Some, None, IsSomeAnd}
+use Rattle.std.specs.Prelude.{◌≡◌, ◌≢◌, ℕ, ◌+◌, ◌-◌, ◌^◌, ◌<◌, ◌≤◌, min, List, [], ◌++◌, length, Option, Some, None, IsSomeAnd, Result, Ok, Err}
 use Rattle.std.specs.FinMap as map
 use Rattle.std.specs.Coded.{Coded, coded_ℕ, coded_list}
 use Rattle.std.specs.Ordering.{nat_cmp}
 use Rattle.std.specs.Cmp.Lexicographic.{slice_cmp}
 use Rattle.sip_files.specs.declared.call.Call.{Call}
+use Rattle.sip_files.specs.declared.fault.LoadFault.{LoadFault}
+use Rattle.sip_files.specs.declared.fault.LoadFault.TheVariants.{Failed, Missing, TooLong, OutOfMemory}
 
 -- bytes by name
 abbrev pub Folder : Type 0
@@ -23,10 +25,25 @@ pub record CountsOnly (call : Call) (before now : Call → ℕ) : Type 0 where
   pub later : before call ≤ now call
   pub others : (other : Call) → other ≢ call → now other ≡ before other
 
--- a count of loads that read more than their limit: this load raises it only where it is one of them
-pub record CountsOverlong (before now most : ℕ) (read : List ℕ) : Type 0 where
-  pub later : before ≤ now
-  pub only : before < now → most < length read
+-- one more, short of the largest number of 64 bits
+abbrev pub one_more : ℕ → ℕ
+one_more count = min (count + 1) (2 ^ 64 - 1)
+
+-- the count of failed loads after an answer
+abbrev pub failed_after : ℕ → Result (Unit {0}) LoadFault → ℕ
+failed_after count (Ok done) = count
+failed_after count (Err Failed) = one_more count
+failed_after count (Err Missing) = count
+failed_after count (Err TooLong) = count
+failed_after count (Err OutOfMemory) = count
+
+-- the count of loads that refused a file as too long, after an answer
+abbrev pub overlong_after : ℕ → Result (Unit {0}) LoadFault → ℕ
+overlong_after count (Ok done) = count
+overlong_after count (Err Failed) = count
+overlong_after count (Err Missing) = count
+overlong_after count (Err TooLong) = one_more count
+overlong_after count (Err OutOfMemory) = count
 
 -- a fact about what a name has, where the files tell it
 abbrev pub WhereTold : Option Folder → List ℕ → (Option (List ℕ) → Type 0) → Type 0
@@ -47,12 +64,7 @@ abbrev pub IsMissing : Option Folder → List ℕ → Type 0
 IsMissing None name = ⊥
 IsMissing (Some files) name = map.get files name ≡ None
 
--- more bytes were read than this, and the count of such loads rose
-pub record ReadsMore (before now most : ℕ) (read : List ℕ) : Type 0 where
-  pub bytes : most < length read
-  pub counted : Rose before now
-
 -- the file is longer than this, as far as the files tell, and else more than this was read
-abbrev pub IsTooLong : Option Folder → List ℕ → ℕ → ℕ → ℕ → List ℕ → Type 0
-IsTooLong None name most before now read = ReadsMore before now most read
-IsTooLong (Some files) name most before now read = IsSomeAnd (map.get files name) (λ held. most < length held)
+abbrev pub IsTooLong : Option Folder → List ℕ → ℕ → List ℕ → Type 0
+IsTooLong None name most read = most < length read
+IsTooLong (Some files) name most read = IsSomeAnd (map.get files name) (λ held. most < length held)

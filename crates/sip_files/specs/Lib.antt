@@ -6,3 +6,4 @@ pub mod Counts
 pub mod Entries
 pub mod MemoryFiles
 pub mod MemorySink
+pub mod Stream

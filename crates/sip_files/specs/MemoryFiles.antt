@@ -1,9 +1,10 @@
 -- What a contract sees of files in memory.
-use Rattle.std.specs.Prelude.{ℕ}
+use Rattle.std.specs.Prelude.{ℕ, Result}
 use Rattle.std.specs.FinMap as map
-use Rattle.sip_files.specs.Files.{Folder}
+use Rattle.sip_files.specs.Files.{Folder, overlong_after}
 use Rattle.sip_files.specs.Plan.{Planned, unplanned, with_number, after_call}
 use Rattle.sip_files.specs.declared.call.Call.{Call}
+use Rattle.sip_files.specs.declared.fault.LoadFault.{LoadFault}
 use Rattle.sip_files.specs.declared.call.Call.TheVariants.{Load, Clear, Append, ReadAt, WriteAt}
 
 -- planned faults of each kind of call
@@ -14,10 +15,11 @@ pub record Plans : Type 0 where
   pub read_at : Planned
   pub write_at : Planned
 
--- bytes by name, planned faults, and the count of growths that found no memory
+-- bytes by name, planned faults, and the counts of loads that refused a file as too long and of growths that found no memory
 pub record FilesInMemory : Type 0 where
   pub files : Folder
   pub plans : Plans
+  pub overlong : ℕ
   pub refused : ℕ
 
 -- no file, and nothing planned
@@ -25,6 +27,7 @@ abbrev pub no_files : FilesInMemory
 no_files = record {
   files = map.empty;
   plans = record { load = unplanned; clear = unplanned; append = unplanned; read_at = unplanned; write_at = unplanned };
+  overlong = 0;
   refused = 0;
 }
 
@@ -48,6 +51,9 @@ with_planned plans WriteAt number = record plans { write_at = with_number plans.
 abbrev pub faults_of : FilesInMemory → Call → ℕ
 faults_of memory call = (plan_of memory.plans call).faults
 
--- after one more load
-abbrev pub after_load : FilesInMemory → FilesInMemory
-after_load memory = record memory { plans = record memory.plans { load = after_call memory.plans.load } }
+-- after a load with this answer
+abbrev pub after_load : FilesInMemory → Result (Unit {0}) LoadFault → FilesInMemory
+after_load memory answer = record memory {
+  plans = record memory.plans { load = after_call memory.plans.load };
+  overlong = overlong_after memory.overlong answer;
+}

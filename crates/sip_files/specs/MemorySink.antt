@@ -1,6 +1,7 @@
 -- What a contract sees of a sink in memory.
 use Rattle.std.specs.Prelude.{ℕ, List, [], ◌++◌}
-use Rattle.sip_files.specs.Plan.{Planned, unplanned, one_more, after_call, after_refusal}
+use Rattle.sip_files.specs.Files.{one_more}
+use Rattle.sip_files.specs.Plan.{Planned, unplanned, after_call, after_refusal}
 
 -- all that was written, planned faults, and the count of growths that found no memory
 pub record SinkInMemory : Type 0 where

@@ -1,6 +1,7 @@
 -- Planned faults of one kind of call: which calls are to fail, counted from 1, and how many came.
-use Rattle.std.specs.Prelude.{ℕ, ◌+◌, ◌-◌, ◌^◌, ◌==◌, Bool, min, cond, List, [], ◌∷◌, ◌++◌}
+use Rattle.std.specs.Prelude.{ℕ, ◌+◌, ◌==◌, Bool, cond, List, [], ◌∷◌, ◌++◌}
 use Rattle.std.specs.List.{list_any}
+use Rattle.sip_files.specs.Files.{one_more}
 
 -- the numbers of the calls that are to fail, how many calls came, and how many of them failed
 pub record Planned : Type 0 where
@@ -11,10 +12,6 @@ pub record Planned : Type 0 where
 -- nothing planned, and no call yet
 abbrev pub unplanned : Planned
 unplanned = record { numbers = []; calls = 0; faults = 0 }
-
--- one more, short of the largest number of 64 bits
-abbrev pub one_more : ℕ → ℕ
-one_more count = min (count + 1) (2 ^ 64 - 1)
 
 -- whether the next call is to fail
 abbrev pub is_next : Planned → Bool

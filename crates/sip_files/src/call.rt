@@ -1,7 +1,7 @@
 //! The kinds of call that files answer.
 
 /// A kind of call; files count their faults for each.
-#[derive(Clone, Copy, Debug, PartialEq, Eq)]
+#[derive(Clone, Copy)]
 pub enum Call {
     Load,
     Clear,

@@ -7,7 +7,7 @@ ghost use Rattle.sip_files.specs.Files.{CountsOnly};
 use crate::call::Call;
 
 /// How often each kind of call failed. Each count stays at its largest number.
-#[derive(Clone, Copy, Debug, Default, PartialEq, Eq)]
+#[derive(Clone, Copy, Default)]
 pub struct Counts {
     pub load: u64,
     pub clear: u64,

@@ -10,7 +10,7 @@ use std::alloc::{AllocError, AllocFailed};
 pub struct Failed;
 
 /// Memory ran out.
-#[derive(Clone, Copy, Debug, PartialEq, Eq)]
+#[derive(Clone, Copy, Debug)]
 pub struct OutOfMemory;
 
 /// Why a file wasn't loaded.

@@ -2,11 +2,11 @@
 
 ghost use Rattle.std.specs.Prelude.{◌≡◌, ℕ, ◌≤◌, [], List, Option, length, OnOk, OnErr, IsErrOf, Some};
 ghost use Rattle.std.specs.Borrow.{GName};
-ghost use Rattle.sip_files.specs.Files.{Folder, Rose, CountsOnly, CountsOverlong, WhereTold, IsPartOf, IsMissing, IsTooLong};
+ghost use Rattle.sip_files.specs.Files.{Folder, CountsOnly, WhereTold, IsPartOf, IsMissing, IsTooLong, one_more, failed_after, overlong_after};
 
 use crate::fault::LoadFault;
 
-/// Files by name. No wrong use is a fault: a call answers `Failed` only where its count rose.
+/// Files by name. No wrong use is a fault: a call answers `Failed` exactly where its count rises.
 pub trait Files {
     ghost use Rattle.sip_files.specs.declared.call.Call.{Call};
     ghost use Rattle.sip_files.specs.declared.call.Call.TheVariants.{Load};
@@ -17,7 +17,10 @@ pub trait Files {
     /// How many calls of each kind failed, as a count of 64 bits that stays at its end.
     ghost faults: { Self → Call → ℕ };
 
-    /// How many loads read more than their limit, as such a count.
+    /// How many loads came, as such a count.
+    ghost came: { Self → ℕ };
+
+    /// How many loads refused a file as too long, as such a count.
     ghost overlong: { Self → ℕ };
 
     /// The loans that stand in the object.
@@ -33,12 +36,14 @@ pub trait Files {
         // A refused load leaves the first bytes of the file.
         ensures part { OnErr result (WhereTold (told self.old) name.now (IsPartOf into.new.items)) }
         ensures missing { IsErrOf result LoadFault.Missing → IsMissing (told self.old) name.now }
-        ensures long { IsErrOf result LoadFault.TooLong → IsTooLong (told self.old) name.now most (overlong self.old) (overlong self.new) into.new.items }
-        ensures cause { IsErrOf result LoadFault.Failed → Rose (faults self.old Load) (faults self.new Load) }
-        ensures uncounted { OnOk result (faults self.new Load ≡ faults self.old Load) }
+        ensures long { IsErrOf result LoadFault.TooLong → IsTooLong (told self.old) name.now most into.new.items }
+
+        // Each load is counted, each that failed, each that found its file too long, and nothing else.
+        ensures came { came self.new ≡ one_more (came self.old) }
+        ensures failed { faults self.new Load ≡ failed_after (faults self.old Load) result }
+        ensures overlong { overlong self.new ≡ overlong_after (overlong self.old) result }
+        ensures counts { CountsOnly Load (faults self.old) (faults self.new) }
 
         ensures told { told self.new ≡ told self.old }
-        ensures counts { CountsOnly Load (faults self.old) (faults self.new) }
-        ensures overlong { CountsOverlong (overlong self.old) (overlong self.new) most into.new.items }
         ensures loans { loans self.new ≡ loans self.old };
 }

@@ -1,17 +1,20 @@
 //! A sink over a stream of the host.
 
 ghost use Rattle.std.specs.Prelude.{◌≡◌, None, OnOk, OnErr};
+ghost use Rattle.std.specs.Io.KnownBytes.{Appends};
 ghost use Rattle.sip_files.specs.Kept.{stands_alone};
-ghost use Rattle.sip_files.specs.Plan.{one_more};
+ghost use Rattle.sip_files.specs.Files.{one_more};
 ghost use Rattle.sip_files.specs.Sink.{Wrote};
+ghost use Rattle.sip_files.specs.Stream.{AppendsPart};
 
 use crate::fault::Failed;
 use crate::sink::Sink;
-use std::io::{ErrorKind, Write};
+use crate::writing::write_whole;
+use std::io::Write;
 use std::marker::Model;
 
-/// A sink over a stream of the host. It tells no content, and counts each error; a stream that takes nothing of a
-/// piece is one.
+/// A sink over a stream of the host. As a sink it tells no content, and it counts each error; a stream that takes
+/// nothing of a piece is one.
 #[derive(Drop)]
 pub struct HostSink<W: Write + Drop> {
     stream: W,
@@ -19,17 +22,17 @@ pub struct HostSink<W: Write + Drop> {
 }
 
 impl<W: Write + Drop> Model for HostSink<W> {
-    ghost use Rattle.std.specs.Prelude.{ℕ};
+    ghost use Rattle.sip_files.specs.Stream.{OnStream};
 
-    ghost Value = { ℕ };
+    ghost Value = { OnStream };
 
-    ghost view = { λ s. s.faults };
+    ghost view = { λ s. record { bytes = W.contents s.stream; faults = s.faults } };
 }
 
 impl<W: Write + Drop> HostSink<W> {
     /// No write failed yet.
     pub fn new(stream: W) -> HostSink<W>
-        ensures { result ≡ 0 }
+        ensures { result ≡ record { bytes = W.contents stream; faults = 0 } }
     {
         HostSink { stream, faults: 0 }
     }
@@ -38,16 +41,20 @@ impl<W: Write + Drop> HostSink<W> {
 impl<W: Write + Drop> Sink for HostSink<W> {
     ghost written = { λ _. None };
 
-    ghost faults = { λ count. count };
+    ghost faults = { λ s. s.faults };
 
     ghost kept = { λ _. stands_alone };
 
     fn write(&mut self, bytes: &[u8]) -> Result<(), Failed>
-        ensures wrote { Wrote None None self.old self.new stands_alone stands_alone bytes.now result }
+        ensures wrote { Wrote None None self.old.faults self.new.faults stands_alone stands_alone bytes.now result }
+
+        // The stream takes these bytes, or a first part of them.
+        ensures ok_bytes { OnOk result (Appends self.old.bytes self.new.bytes bytes.now) }
+        ensures err_bytes { OnErr result (AppendsPart self.old.bytes self.new.bytes bytes.now) }
 
         // Each failure is counted, and nothing else.
-        ensures ok { OnOk result (self.new ≡ self.old) }
-        ensures err { OnErr result (self.new ≡ one_more self.old) }
+        ensures ok { OnOk result (self.new.faults ≡ self.old.faults) }
+        ensures err { OnErr result (self.new.faults ≡ one_more self.old.faults) }
     {
         let answer = write_whole(&mut self.stream, bytes);
         if answer.is_err() {
@@ -55,21 +62,4 @@ impl<W: Write + Drop> Sink for HostSink<W> {
         }
         answer
     }
-}
-
-// Writes all bytes. An interrupted write is one that took nothing, and is tried again.
-fn write_whole<W: Write>(stream: &mut W, bytes: &[u8]) -> Result<(), Failed> {
-    let mut rest = bytes;
-    for _ in 0..u64::MAX {
-        if rest.is_empty() {
-            return Ok(());
-        }
-        match stream.write(rest) {
-            Ok(0) => return Err(Failed),
-            Ok(count) => rest = &rest[count..],
-            Err(error) if error.kind() == ErrorKind::Interrupted => {}
-            Err(_) => return Err(Failed),
-        }
-    }
-    Err(Failed)
 }

@@ -11,8 +11,9 @@ mod host_sink;
 mod memory_files;
 mod memory_sink;
 mod plan;
+mod reading;
 mod sink;
-mod stream;
+mod writing;
 
 pub use call::Call;
 pub use fault::{Failed, LoadFault, OutOfMemory};
@@ -21,8 +22,5 @@ pub use host_files::HostFiles;
 pub use host_sink::HostSink;
 pub use memory_files::MemoryFiles;
 pub use memory_sink::MemorySink;
+pub use reading::read_whole;
 pub use sink::Sink;
-pub use stream::Stream;
-
-#[cfg(test)]
-mod tests;

@@ -2,7 +2,7 @@
 
 ghost use Rattle.std.specs.Prelude.{◌≡◌, ◌↔◌, ◌<◌, ◌≤◌, [], Some, None, length, option_map, IsSomeAnd, IsTrue, OnOk, OnErr, IsErrOf};
 ghost use Rattle.std.specs.FinMap as map;
-ghost use Rattle.sip_files.specs.Files.{CountsOnly, IsPartOf};
+ghost use Rattle.sip_files.specs.Files.{CountsOnly, IsPartOf, failed_after};
 ghost use Rattle.sip_files.specs.Plan.{is_next};
 ghost use Rattle.sip_files.specs.MemoryFiles.{no_files, with_planned, faults_of, after_load};
 
@@ -23,6 +23,7 @@ pub struct MemoryFiles {
     append: Plan,
     read_at: Plan,
     write_at: Plan,
+    overlong: u64,
     refused: u64,
 }
 
@@ -35,7 +36,7 @@ impl Model for MemoryFiles {
 
     ghost coded = { Prim.hlevel (codes, folder_code) };
 
-    ghost view = { λ m. record { files = m.files; plans = record { load = m.load; clear = m.clear; append = m.append; read_at = m.read_at; write_at = m.write_at }; refused = m.refused } };
+    ghost view = { λ m. record { files = m.files; plans = record { load = m.load; clear = m.clear; append = m.append; read_at = m.read_at; write_at = m.write_at }; overlong = m.overlong; refused = m.refused } };
 }
 
 impl MemoryFiles {
@@ -50,6 +51,7 @@ impl MemoryFiles {
             append: Plan::new(alloc),
             read_at: Plan::new(alloc),
             write_at: Plan::new(alloc),
+            overlong: 0,
             refused: 0,
         }
     }
@@ -98,7 +100,9 @@ impl Files for MemoryFiles {
 
     ghost faults = { faults_of };
 
-    ghost overlong = { λ _. 0 };
+    ghost came = { λ m. m.plans.load.calls };
+
+    ghost overlong = { λ m. m.overlong };
 
     ghost loans = { λ _. [] };
 
@@ -113,10 +117,10 @@ impl Files for MemoryFiles {
         ensures missing { IsErrOf result LoadFault.Missing → map.get self.old.files name.now ≡ None }
         ensures long { IsErrOf result LoadFault.TooLong → IsSomeAnd (map.get self.old.files name.now) (λ held. most < length held) }
 
-        // The load fails exactly where that was planned, and nothing but its count changes.
+        // The load fails exactly where that was planned, and nothing but counts changes.
         ensures planned { IsErrOf result LoadFault.Failed ↔ IsTrue (is_next self.old.plans.load) }
-        ensures uncounted { OnOk result (faults_of self.new Load ≡ faults_of self.old Load) }
-        ensures after { self.new ≡ after_load self.old }
+        ensures failed { faults_of self.new Load ≡ failed_after (faults_of self.old Load) result }
+        ensures after { self.new ≡ after_load self.old result }
         ensures counts { CountsOnly Load (faults_of self.old) (faults_of self.new) }
     {
         if self.load.meet() {
@@ -126,6 +130,7 @@ impl Files for MemoryFiles {
             return Err(LoadFault::Missing);
         };
         if held.len() as u64 > most {
+            self.overlong = self.overlong.saturating_add(1);
             return Err(LoadFault::TooLong);
         }
         into.extend_from_slice(held)?;

@@ -1,0 +1,11 @@
+//! Tests of the top call over files and sinks in memory: its statuses, its lines and what it wrote.
+#![tactic(auto)]
+
+#[cfg(test)]
+mod calls;
+#[cfg(test)]
+mod files;
+#[cfg(test)]
+mod runs;
+#[cfg(test)]
+mod texts;
