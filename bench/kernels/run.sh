@@ -20,6 +20,7 @@ if command -v rustc > /dev/null; then
     # The processor that the proved program is built for, so that both may use the same instructions.
     rustc -O -C target-cpu=x86-64-v2 --edition 2021 "$here/plain/plain.rs" -o "$work/plain"
     plain=$work/plain
+    rustc -O -C target-cpu=x86-64-v2 -C no-vectorize-loops -C no-vectorize-slp --edition 2021 "$here/plain/limit.rs" -o "$work/limit"
 else
     echo "no rustc here: the plain loops are left out" >&2
 fi
@@ -30,6 +31,7 @@ for round in $(seq "$rounds"); do
     half=$((round % 2))
     if [ -n "$plain" ]; then
         "$plain" | sed "s/^/plain $half /"
+        "$work/limit" | sed "s/^/limit $half /"
     fi
     "$proved" times | sed "s/^/proved $half /"
 done > "$work/times"

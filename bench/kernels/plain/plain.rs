@@ -70,7 +70,6 @@ fn time_contraction(case: &str, dims: [usize; 6], calls: u32) {
     time(case, "six_loops", calls, &mut to, |to| {
         six(&a, &b, to, dims)
     });
-    time_limit(case, i * j * k * l * m * n, calls);
 }
 
 fn time_matrix(case: &str, dims: [usize; 3], calls: u32) {
@@ -81,7 +80,6 @@ fn time_matrix(case: &str, dims: [usize; 3], calls: u32) {
     time(case, "triple_loop", calls, &mut to, |to| {
         triple(&a, &b, to, black_box(i), black_box(m), black_box(k))
     });
-    time_limit(case, i * m * k, calls);
 }
 
 fn time_outer() {
@@ -89,7 +87,6 @@ fn time_outer() {
     let b = numbers(343, 2);
     let mut to = numbers(117_649, 3);
     time("outer_7", "two_loops", 2, &mut to, |to| outer(&a, &b, to));
-    time_limit("outer_7", 117_649, 2);
 }
 
 #[inline(never)]
@@ -106,9 +103,8 @@ fn time_scalar() {
     let b = numbers(46_656, 2);
     let mut to = numbers(1, 3);
     time("scalar_6", "one_loop", 4, &mut to, |to| {
-        to[0] = to[0].wrapping_add(dot(&a, &b))
+        to[0] = to[0].wrapping_add(dot(black_box(&a), black_box(&b)))
     });
-    time_limit("scalar_6", 46_656, 4);
 }
 
 fn time_turned() {
@@ -118,7 +114,6 @@ fn time_turned() {
     time("turned_8", "triple_loop", 2, &mut to, |to| {
         turned(&a, &b, to, black_box(64))
     });
-    time_limit("turned_8", 262_144, 2);
 }
 
 // The shared axis is the slowest of the first matrix, and the fastest of the second.
@@ -134,28 +129,6 @@ fn turned(a: &[u64], b: &[u64], to: &mut [u64], size: usize) {
             *number = number.wrapping_add(sum);
         }
     }
-}
-
-// As many multiplications that wait for no other: what the processor's one multiplier allows.
-fn time_limit(case: &str, count: usize, calls: u32) {
-    let start = Instant::now();
-    for _ in 0..calls {
-        black_box(multiply(black_box(count)));
-    }
-    let took = start.elapsed() / calls;
-    println!("{case} multiplications {} -", took.as_nanos());
-}
-
-#[inline(never)]
-fn multiply(count: usize) -> u64 {
-    let mut chains = [1u64, 3, 5, 7, 9, 11, 13, 15];
-    let factors = black_box([3u64, 5, 7, 9, 11, 13, 15, 17]);
-    for _ in 0..count / 8 {
-        for (chain, factor) in chains.iter_mut().zip(factors) {
-            *chain = chain.wrapping_mul(factor);
-        }
-    }
-    chains.iter().fold(0, |sum, chain| sum ^ chain)
 }
 
 // Both free pairs and the shared pair as one axis each, which only a matrix allows.
