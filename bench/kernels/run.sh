@@ -20,6 +20,7 @@ if command -v rustc > /dev/null; then
     # The processor that the proved program is built for, so that both may use the same instructions.
     rustc -O -C target-cpu=x86-64-v2 --edition 2021 "$here/plain/plain.rs" -o "$work/plain"
     plain=$work/plain
+    rustc -O -C target-cpu=x86-64-v2 -C no-vectorize-loops -C no-vectorize-slp --edition 2021 "$here/plain/limit.rs" -o "$work/limit"
 else
     echo "no rustc here: the plain loops are left out" >&2
 fi
@@ -30,6 +31,7 @@ for round in $(seq "$rounds"); do
     half=$((round % 2))
     if [ -n "$plain" ]; then
         "$plain" | sed "s/^/plain $half /"
+        "$work/limit" | sed "s/^/limit $half /"
     fi
     "$proved" times | sed "s/^/proved $half /"
 done > "$work/times"
@@ -58,10 +60,10 @@ awk '
         if (!(call in least)) calls[$3] = calls[$3] " " $4
         keep(call)
         keep(call " " half)
-        if (sum[$3] "" != $6 "") differs[$3] = 1
+        if ($6 != "-" && sum[$3] "" != $6 "") differs[$3] = 1
     }
     END {
-        printf "%-22s %-16s %12s %7s %12s\n", "case", "call", "nanoseconds", "ratio", "halves"
+        printf "%-22s %-16s %12s %7s %12s %7s\n", "case", "call", "nanoseconds", "ratio", "halves", "limit"
         for (i = 1; i <= count; i++) {
             name = cases[i]
             many = split(calls[name], of_case, " ")
@@ -70,6 +72,8 @@ awk '
                 printf "%-22s %-16s %12d", name, of_case[j], least[call]
                 if (name in loop) printf " %7.2f", ratio(call, loop[name], "")
                 if (name in loop && call " 0" in least) printf "  %5.2f %5.2f", ratio(call, loop[name], " 1"), ratio(call, loop[name], " 0")
+                limit = name " multiplications"
+                if (limit in least) printf " %7.2f", least[call] / least[limit]
                 print ""
             }
         }

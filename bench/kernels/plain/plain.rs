@@ -7,17 +7,20 @@ use std::ops::Range;
 use std::time::Instant;
 
 // As many calls of a kind as take some tenths of a millisecond, so that most runs are not interrupted.
-const CONTRACTIONS: u32 = 2;
 const COPIES: u32 = 100;
 const PASSES: u32 = 10;
 const LENGTH: usize = 65_536;
 
 fn main() {
-    time_contraction("contraction_7", [7; 6]);
-    time_contraction("contraction_8", [8; 6]);
-    time_contraction("contraction_9", [9; 6]);
-    time_contraction("contraction_10", [10; 6]);
-    time_contraction("contraction_7_8_9_10", [7, 8, 9, 10, 7, 8]);
+    time_contraction("contraction_6", [6; 6], 4);
+    time_contraction("contraction_7", [7; 6], 4);
+    time_contraction("contraction_8", [8; 6], 2);
+    time_contraction("contraction_10", [10; 6], 2);
+    time_matrix("matrix_4", [4, 4, 4], 1000);
+    time_matrix("matrix_20_400", [20, 20, 400], 2);
+    time_outer();
+    time_scalar();
+    time_turned();
     time_permutation("permutation_2031", [2, 0, 3, 1], |_, value| value);
     time_permutation("permutation_3210", [3, 2, 1, 0], |_, value| value);
     time_permutation("permutation_1023", [1, 0, 2, 3], |_, value| value);
@@ -55,18 +58,77 @@ fn time(case: &str, name: &str, calls: u32, to: &mut [u64], mut call: impl FnMut
     println!("{case} {name} {} {}", took.as_nanos(), checksum(to));
 }
 
-fn time_contraction(case: &str, dims: [usize; 6]) {
+fn time_contraction(case: &str, dims: [usize; 6], calls: u32) {
     let [i, j, k, l, m, n] = dims;
     let a = numbers(i * j * k * l, 1);
     let b = numbers(k * l * m * n, 2);
     let mut to = numbers(i * j * m * n, 3);
-    time(case, "triple_loop", CONTRACTIONS, &mut to, |to| {
+    time(case, "triple_loop", calls, &mut to, |to| {
         triple(&a, &b, to, i * j, m * n, k * l)
     });
     let mut to = numbers(i * j * m * n, 3);
-    time(case, "six_loops", CONTRACTIONS, &mut to, |to| {
+    time(case, "six_loops", calls, &mut to, |to| {
         six(&a, &b, to, dims)
     });
+}
+
+fn time_matrix(case: &str, dims: [usize; 3], calls: u32) {
+    let [i, m, k] = dims;
+    let a = numbers(i * k, 1);
+    let b = numbers(k * m, 2);
+    let mut to = numbers(i * m, 3);
+    time(case, "triple_loop", calls, &mut to, |to| {
+        triple(&a, &b, to, black_box(i), black_box(m), black_box(k))
+    });
+}
+
+fn time_outer() {
+    let a = numbers(343, 1);
+    let b = numbers(343, 2);
+    let mut to = numbers(117_649, 3);
+    time("outer_7", "two_loops", 2, &mut to, |to| outer(&a, &b, to));
+}
+
+#[inline(never)]
+fn outer(a: &[u64], b: &[u64], to: &mut [u64]) {
+    for (row, left) in to.chunks_exact_mut(b.len()).zip(a) {
+        for (number, right) in row.iter_mut().zip(b) {
+            *number = number.wrapping_add(left.wrapping_mul(*right));
+        }
+    }
+}
+
+fn time_scalar() {
+    let a = numbers(46_656, 1);
+    let b = numbers(46_656, 2);
+    let mut to = numbers(1, 3);
+    time("scalar_6", "one_loop", 4, &mut to, |to| {
+        to[0] = to[0].wrapping_add(dot(black_box(&a), black_box(&b)))
+    });
+}
+
+fn time_turned() {
+    let a = numbers(4096, 1);
+    let b = numbers(4096, 2);
+    let mut to = numbers(4096, 3);
+    time("turned_8", "triple_loop", 2, &mut to, |to| {
+        turned(&a, &b, to, black_box(64))
+    });
+}
+
+// The shared axis is the slowest of the first matrix, and the fastest of the second.
+#[inline(never)]
+fn turned(a: &[u64], b: &[u64], to: &mut [u64], size: usize) {
+    for i in 0..size {
+        for j in 0..size {
+            let mut sum = 0u64;
+            for k in 0..size {
+                sum = sum.wrapping_add(a[k * size + i].wrapping_mul(b[j * size + k]));
+            }
+            let number = &mut to[i * size + j];
+            *number = number.wrapping_add(sum);
+        }
+    }
 }
 
 // Both free pairs and the shared pair as one axis each, which only a matrix allows.

@@ -1,4 +1,4 @@
-//! Contractions of blocks by tiles, for every split of up to six dimensions.
+//! Contractions of blocks by panels and tiles, for every split of up to six dimensions.
 #![tactic(auto)]
 
 mod axis;

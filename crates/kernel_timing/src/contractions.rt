@@ -1,50 +1,39 @@
-//! Contractions of two blocks of rank 4 over two shared axes.
+//! Contractions of blocks, by how their axes lie.
+
+ghost use Rattle.std.specs.Prelude.{◌+◌, ◌≤◌, length};
 
 use crate::blocks::numbers;
 use crate::report::report;
-use kernel_contract::laws::contract_plain;
-use kernel_contract::{Axis, contract, contract_any, is_by_rows};
+use kernel_contract::{Axis, contract_any, is_by_rows};
 use kernel_permute::How;
 use std::io;
 use std::time::Instant;
 
-const CALLS: u32 = 2;
-
-// the axes of a contraction of a block [i, j, k, l] with a block [k, l, m, n]
-#[derive(Drop)]
-struct Axes {
-    free_a: [Axis; 2],
-    free_b: [Axis; 2],
-    shared: [Axis; 2],
-}
-
-/// Times each contraction by tiles, for splits known when it runs, and by the plain loops.
+/// Times each contraction: matrices of pairs of axes first, then the forms that share little, share all,
+/// or lie the other way round.
 pub fn time(rt: &HostRuntime) -> io::Result<()> {
-    time_one(rt, "contraction_7", [7, 7, 7, 7, 7, 7])?;
-    time_one(rt, "contraction_8", [8, 8, 8, 8, 8, 8])?;
-    time_one(rt, "contraction_9", [9, 9, 9, 9, 9, 9])?;
-    time_one(rt, "contraction_10", [10, 10, 10, 10, 10, 10])?;
-    time_one(rt, "contraction_7_8_9_10", [7, 8, 9, 10, 7, 8])
+    time_pairs(rt, "contraction_6", [6, 6, 6], 4)?;
+    time_pairs(rt, "contraction_7", [7, 7, 7], 4)?;
+    time_pairs(rt, "contraction_8", [8, 8, 8], 2)?;
+    time_pairs(rt, "contraction_10", [10, 10, 10], 2)?;
+    time_matrix(rt, "matrix_4", [4, 4, 4], 1000)?;
+    time_matrix(rt, "matrix_20_400", [20, 20, 400], 2)?;
+    time_outer(rt)?;
+    time_scalar(rt)?;
+    time_turned(rt)
 }
 
-fn time_one(rt: &HostRuntime, case: &str, dims: [u32; 6]) -> io::Result<()> {
-    let [i, j, k, l, m, n] = dims;
-    let a = numbers(rt, size(&[i, j, k, l]) as usize, 1)?;
-    let b = numbers(rt, size(&[k, l, m, n]) as usize, 2)?;
-    let targets = size(&[i, j, m, n]) as usize;
-    let axes = Axes::of(dims);
-    let mut to = numbers(rt, targets, 3)?;
-    let start = Instant::now(rt)?;
-    by_any(&a, &b, &mut to, &axes);
-    report(rt, case, "contract_any", start, CALLS, &to)?;
-    let mut to = numbers(rt, targets, 3)?;
-    let start = Instant::now(rt)?;
-    by_tiles(&a, &b, &mut to, &axes);
-    report(rt, case, "contract", start, CALLS, &to)?;
-    let mut to = numbers(rt, targets, 3)?;
-    let start = Instant::now(rt)?;
-    by_plain_loops(&a, &b, &mut to, &axes);
-    report(rt, case, "contract_plain", start, CALLS, &to)
+// an axis of the first free list, of the second, and a shared one
+fn left(len: u32, a: u32, to: u32) -> Axis {
+    Axis { len, a, b: 0, to }
+}
+
+fn right(len: u32, b: u32, to: u32) -> Axis {
+    Axis { len, a: 0, b, to }
+}
+
+fn shared(len: u32, a: u32, b: u32) -> Axis {
+    Axis { len, a, b, to: 0 }
 }
 
 // how many numbers lie in a block, or in a part of its dimensions
@@ -53,94 +42,130 @@ fn size(dims: &[u32]) -> u32 {
         .fold(1, |size: u32, len| size.saturating_mul(*len))
 }
 
-impl Axes {
-    fn of(dims: [u32; 6]) -> Axes {
-        let [i, j, k, l, m, n] = dims;
-        Axes {
-            free_a: [
-                Axis {
-                    len: i,
-                    a: size(&[j, k, l]),
-                    b: 0,
-                    to: size(&[j, m, n]),
-                },
-                Axis {
-                    len: j,
-                    a: size(&[k, l]),
-                    b: 0,
-                    to: size(&[m, n]),
-                },
-            ],
-            free_b: [
-                Axis {
-                    len: m,
-                    a: 0,
-                    b: n,
-                    to: n,
-                },
-                Axis {
-                    len: n,
-                    a: 0,
-                    b: 1,
-                    to: 1,
-                },
-            ],
-            shared: [
-                Axis {
-                    len: k,
-                    a: l,
-                    b: size(&[l, m, n]),
-                    to: 0,
-                },
-                Axis {
-                    len: l,
-                    a: 1,
-                    b: size(&[m, n]),
-                    to: 0,
-                },
-            ],
-        }
-    }
+// [i, j, k, l] with [k, l, m, n], where both axes of a pair have one length
+fn time_pairs(rt: &HostRuntime, case: &str, lengths: [u32; 3], calls: u32) -> io::Result<()>
+    requires some { 1 ≤ calls }
+{
+    let [i, m, k] = lengths;
+    time_one(
+        rt,
+        case,
+        calls,
+        [
+            size(&[i, i, k, k]),
+            size(&[k, k, m, m]),
+            size(&[i, i, m, m]),
+        ],
+        &[
+            left(i, size(&[i, k, k]), size(&[i, m, m])),
+            left(i, size(&[k, k]), size(&[m, m])),
+        ],
+        &[right(m, m, m), right(m, 1, 1)],
+        &[shared(k, k, size(&[k, m, m])), shared(k, 1, size(&[m, m]))],
+    )
+}
+
+// [i, k] with [k, m]
+fn time_matrix(rt: &HostRuntime, case: &str, lengths: [u32; 3], calls: u32) -> io::Result<()>
+    requires some { 1 ≤ calls }
+{
+    let [i, m, k] = lengths;
+    time_one(
+        rt,
+        case,
+        calls,
+        [size(&[i, k]), size(&[k, m]), size(&[i, m])],
+        &[left(i, k, m)],
+        &[right(m, 1, 1)],
+        &[shared(k, 1, m)],
+    )
+}
+
+// [i, j, k] with [l, m, n], which share nothing
+fn time_outer(rt: &HostRuntime) -> io::Result<()> {
+    time_one(
+        rt,
+        "outer_7",
+        2,
+        [343, 343, 117_649],
+        &[left(7, 49, 16_807), left(7, 7, 2401), left(7, 1, 343)],
+        &[right(7, 49, 49), right(7, 7, 7), right(7, 1, 1)],
+        &[],
+    )
+}
+
+// two blocks of rank 6 that share all
+fn time_scalar(rt: &HostRuntime) -> io::Result<()> {
+    time_one(
+        rt,
+        "scalar_6",
+        4,
+        [46_656, 46_656, 1],
+        &[],
+        &[],
+        &[
+            shared(6, 7776, 7776),
+            shared(6, 1296, 1296),
+            shared(6, 216, 216),
+            shared(6, 36, 36),
+            shared(6, 6, 6),
+            shared(6, 1, 1),
+        ],
+    )
+}
+
+// [k, l, i, j] with [m, n, k, l]: the shared axes are the slowest of one, and the fastest of the other
+fn time_turned(rt: &HostRuntime) -> io::Result<()> {
+    time_one(
+        rt,
+        "turned_8",
+        2,
+        [4096, 4096, 4096],
+        &[left(8, 8, 512), left(8, 1, 64)],
+        &[right(8, 512, 8), right(8, 64, 1)],
+        &[shared(8, 512, 8), shared(8, 64, 1)],
+    )
+}
+
+fn time_one(
+    rt: &HostRuntime,
+    case: &str,
+    calls: u32,
+    counts: [u32; 3],
+    free_a: &[Axis],
+    free_b: &[Axis],
+    shared: &[Axis],
+) -> io::Result<()>
+    requires some { 1 ≤ calls }
+    requires dimensions_a { length free_a.now + length shared.now ≤ 6 }
+    requires dimensions_b { length free_b.now + length shared.now ≤ 6 }
+    requires dimensions_to { length free_a.now + length free_b.now ≤ 6 }
+{
+    let a = numbers(rt, counts[0] as usize, 1)?;
+    let b = numbers(rt, counts[1] as usize, 2)?;
+    let mut to = numbers(rt, counts[2] as usize, 3)?;
+    let start = Instant::now(rt)?;
+    repeat(calls, &a, &b, &mut to, free_a, free_b, shared);
+    report(rt, case, "contract_any", start, calls, &to)
 }
 
 #[inline(never)]
-fn by_any(a: &[u64], b: &[u64], to: &mut [u64], axes: &Axes) {
-    let Axes {
-        free_a,
-        free_b,
-        shared,
-    } = axes;
-    for _ in 0..CALLS {
+fn repeat(
+    calls: u32,
+    a: &[u64],
+    b: &[u64],
+    to: &mut [u64],
+    free_a: &[Axis],
+    free_b: &[Axis],
+    shared: &[Axis],
+)
+    requires dimensions_a { length free_a.now + length shared.now ≤ 6 }
+    requires dimensions_b { length free_b.now + length shared.now ≤ 6 }
+    requires dimensions_to { length free_a.now + length free_b.now ≤ 6 }
+{
+    for _ in 0..calls {
         if is_by_rows(a.len(), b.len(), to.len(), free_a, free_b, shared) {
             contract_any(a, b, to, free_a, free_b, shared, How::Add);
-        }
-    }
-}
-
-#[inline(never)]
-fn by_tiles(a: &[u64], b: &[u64], to: &mut [u64], axes: &Axes) {
-    let Axes {
-        free_a,
-        free_b,
-        shared,
-    } = axes;
-    for _ in 0..CALLS {
-        if is_by_rows(a.len(), b.len(), to.len(), free_a, free_b, shared) {
-            contract::<2, 2, 2>(a, b, to, free_a, free_b, shared, How::Add);
-        }
-    }
-}
-
-#[inline(never)]
-fn by_plain_loops(a: &[u64], b: &[u64], to: &mut [u64], axes: &Axes) {
-    let Axes {
-        free_a,
-        free_b,
-        shared,
-    } = axes;
-    for _ in 0..CALLS {
-        if is_by_rows(a.len(), b.len(), to.len(), free_a, free_b, shared) {
-            contract_plain(a, b, to, free_a, free_b, shared, How::Add);
         }
     }
 }
