@@ -1,7 +1,6 @@
 pub mod TreeLemmas
 pub mod BoxLemmas
 pub mod RankLemmas
-pub mod FaultyPrograms
 pub mod AmongLemmas
 pub mod KindLemmas
 pub mod CallLemmas

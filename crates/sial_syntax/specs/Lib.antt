@@ -16,5 +16,3 @@ pub mod Resolved
 pub mod BoxLaws
 pub mod KindLaws
 pub mod CallLaws
-pub mod FaultyShapes
-pub mod FaultySides

@@ -1,9 +1,7 @@
-//! What the definitions of boxes and of faults say: laws that proofs above cite, with nothing to run.
+//! What the definitions of boxes, kinds and calls say: laws that proofs above cite, with nothing to run.
 
 ghost use Rattle.sial_syntax.specs.BoxLaws.{NumbersOfRank, NumbersWithin, PlaceOfTuple, PlaceWithin, RankOfNumbers, RankWithin, TupleOfPlace, TuplesCounted, TuplesInOrder, TupleWithin};
 ghost use Rattle.sial_syntax.specs.CallLaws.{DepthByCalls, InnerByCalls, OuterByCalls, ReachedByChains};
-ghost use Rattle.sial_syntax.specs.FaultyShapes.{ShapeFaultsFound};
-ghost use Rattle.sial_syntax.specs.FaultySides.{SideFaultsFound};
 ghost use Rattle.sial_syntax.specs.KindLaws.{KindOfSegments, KindOfSubindex};
 
 /// The place of a tuple in its box, and the tuple at a place.
@@ -40,10 +38,4 @@ pub fn chains_of_calls()
     ensures depth { DepthByCalls }
     ensures outer { OuterByCalls }
     ensures inner { InnerByCalls }
-{}
-
-/// Programs with one fault each: where it is found, and as which.
-pub fn faulty_programs()
-    ensures shapes { ShapeFaultsFound }
-    ensures sides { SideFaultsFound }
 {}

@@ -5,3 +5,4 @@ mod RulesAre
 mod EpochsAre
 mod CostsAre
 mod BoundsHold
+mod FaultsAreFound

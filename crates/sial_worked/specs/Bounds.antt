@@ -38,7 +38,8 @@ as_written = record { index_line = 2; array_line = 3; line = 5; bound = 2; liter
 abbrev pub edge : Numbers → Tree
 edge n = record {
   name = codes "edge";
-  indices = record { name = codes "i"; line = n.index_line; range = range.Segments kind.Index (bound.Number 1) (bound.Number n.bound) } ∷ [];
+  indices =
+      record { name = codes "i"; line = n.index_line; range = range.Segments kind.Index (bound.Number 1) (bound.Number n.bound) } ∷ [];
   arrays = record { name = codes "a"; line = n.array_line; kind = array.Static; dims = 0 ∷ [] } ∷ [];
   scalars = codes "x" ∷ [];
   procedures = [];

@@ -1,0 +1,33 @@
+-- A program with one fault: a get of a static array.
+--
+--     1  sial b
+--     2  index i = 1, 2
+--     3  static a(i)
+--     4  do i
+--     5  get a(i)
+--     6  enddo i
+--     7  endsial b
+use Rattle.std.specs.Prelude.{ℕ, [], ◌∷◌, codes}
+use Rattle.sial_syntax.specs.declared.array.ArrayKind.TheVariants as array
+use Rattle.sial_syntax.specs.declared.index.Bound.TheVariants as bound
+use Rattle.sial_syntax.specs.declared.index.Kind.TheVariants as kind
+use Rattle.sial_syntax.specs.declared.index.Range.TheVariants as range
+use Rattle.sial_syntax.specs.declared.operand.BlockRef.{BlockRef}
+use Rattle.sial_syntax.specs.Tree.{Tree, End, Then, Do, Get}
+
+-- its tree
+abbrev pub get_static : Tree
+get_static =
+    let i : ℕ = 0 in
+    let a : ℕ = 0 in
+    let a_i : BlockRef = record { array = a; at = i ∷ [] } in
+    record {
+      name = codes "b";
+      indices = record { name = codes "i"; line = 2; range = range.Segments kind.Index (bound.Number 1) (bound.Number 2) } ∷ [];
+      arrays = record { name = codes "a"; line = 3; kind = array.Static; dims = i ∷ [] } ∷ [];
+      scalars = [];
+      procedures = [];
+      body =
+          Then 4 (Do i (
+          Then 5 (Get a_i) End)) End;
+    }

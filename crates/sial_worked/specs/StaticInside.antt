@@ -1,0 +1,37 @@
+-- A program with one fault: a static array written within.
+--
+--     1  sial b
+--     2  index i = 1, 2
+--     3  static a(i)
+--     4  pardo i
+--     5  a(i) = 1
+--     6  endpardo i
+--     7  endsial b
+use Rattle.std.specs.Prelude.{ℕ, [], ◌∷◌, codes}
+use Rattle.sial_syntax.specs.declared.array.ArrayKind.TheVariants as array
+use Rattle.sial_syntax.specs.declared.index.Bound.TheVariants as bound
+use Rattle.sial_syntax.specs.declared.index.Kind.TheVariants as kind
+use Rattle.sial_syntax.specs.declared.index.Range.TheVariants as range
+use Rattle.sial_syntax.specs.declared.operand.BlockRef.{BlockRef}
+use Rattle.sial_syntax.specs.declared.operand.Op.TheVariants as op
+use Rattle.sial_syntax.specs.declared.operand.Operand.TheVariants as operand
+use Rattle.sial_syntax.specs.declared.operand.Right.TheVariants.{One}
+use Rattle.sial_syntax.specs.declared.operand.Target.TheVariants as target
+use Rattle.sial_syntax.specs.Tree.{Tree, End, Then, Pardo, Assign}
+
+-- its tree
+abbrev pub static_inside : Tree
+static_inside =
+    let i : ℕ = 0 in
+    let a : ℕ = 0 in
+    let a_i : BlockRef = record { array = a; at = i ∷ [] } in
+    record {
+      name = codes "b";
+      indices = record { name = codes "i"; line = 2; range = range.Segments kind.Index (bound.Number 1) (bound.Number 2) } ∷ [];
+      arrays = record { name = codes "a"; line = 3; kind = array.Static; dims = i ∷ [] } ∷ [];
+      scalars = [];
+      procedures = [];
+      body =
+          Then 4 (Pardo (i ∷ []) [] (
+          Then 5 (Assign (target.Block a_i) op.Set (One (operand.Number 1))) End)) End;
+    }
