@@ -1,5 +1,6 @@
 -- Each faulty program has its fault.
 use Rattle.std.proofs.Common.{refl}
+use Rattle.sial_worked.specs.ChosenFaults.{ChosenFaultsFound}
 use Rattle.sial_worked.specs.FaultsFound.{ShapeFaultsFound, SideFaultsFound}
 
 pub shape-faults-found : ShapeFaultsFound
@@ -45,4 +46,18 @@ side-faults-found = record {
   collected_other = refl;
   recursion_shape = refl;
   recursion = refl;
+}
+
+pub chosen-faults-found : ChosenFaultsFound
+chosen-faults-found = record {
+  zero_sum_shape = refl;
+  zero_sum = refl;
+  short_block = refl;
+  uncalled_read_shape = refl;
+  uncalled_read = refl;
+  uncalled_source_shape = refl;
+  uncalled_source = refl;
+  uncalled_put_shape = refl;
+  uncalled_put = refl;
+  uneven_product = refl;
 }

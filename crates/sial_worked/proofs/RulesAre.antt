@@ -34,6 +34,7 @@ pub spaces-are-refused : SpacesAreRefused
 spaces-are-refused = record {
   no_segments = λ constants are. never are.segments;
   too_high = λ constants are. never are.segments;
+  empty_too_high = λ constants are. never are.segments;
   other_span = λ constants are. absurd cc;
   no_constant = λ are. never are.segments;
   too_long = λ constants are. never are.cuts;

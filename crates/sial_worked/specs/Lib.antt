@@ -76,3 +76,10 @@ pub mod MixedPartial
 pub mod CollectedOther
 pub mod Recursion
 pub mod FaultsFound
+pub mod ZeroSum
+pub mod ShortBlock
+pub mod UncalledRead
+pub mod UncalledSource
+pub mod UncalledPut
+pub mod UnevenProduct
+pub mod ChosenFaults

@@ -11,6 +11,7 @@
 use Rattle.std.specs.Prelude.{ℕ, [], ◌∷◌, codes}
 use Rattle.sial_syntax.specs.declared.array.ArrayKind.TheVariants as array
 use Rattle.sial_syntax.specs.declared.index.Bound.TheVariants as bound
+use Rattle.sial_syntax.specs.declared.index.IndexDecl.{IndexDecl}
 use Rattle.sial_syntax.specs.declared.index.Kind.TheVariants as kind
 use Rattle.sial_syntax.specs.declared.index.Range.TheVariants as range
 use Rattle.sial_syntax.specs.declared.operand.BlockRef.{BlockRef}
@@ -42,12 +43,20 @@ past =
           Then 6 (Integrals a_j) End)) End;
     }
 
+-- a range that ends before it begins, and past two segments
+abbrev pub backwards : IndexDecl
+backwards = record { name = codes "i"; line = 2; range = range.Segments kind.Ao (bound.Number 4) (bound.Number 3) }
+
 -- spaces that aren't a program's, whatever its constants are
 pub record SpacesAreRefused : Type 0 where
   -- a kind has no segments
   pub no_segments : (constants : Constants) → AreSpacesBy constants first.program (spaces_of [] [] (Segments kind.Ao 1 2 ∷ [])) → ⊥
   -- a range goes past its kind's segments
   pub too_high : (constants : Constants) → AreSpacesBy constants first.program (spaces_of (2 ∷ []) [] (Segments kind.Ao 1 2 ∷ [])) → ⊥
+  -- so it does where it is empty
+  pub empty_too_high : (constants : Constants)
+      → AreSpacesBy constants (record first.program { indices = backwards ∷ [] }) (spaces_of (2 ∷ 1 ∷ []) [] (Segments kind.Ao 1 0 ∷ []))
+      → ⊥
   -- a span isn't the declared range
   pub other_span : (constants : Constants)
       → AreSpacesBy constants first.program (spaces_of (2 ∷ 1 ∷ 1 ∷ []) [] (Segments kind.Ao 2 2 ∷ [])) → ⊥
