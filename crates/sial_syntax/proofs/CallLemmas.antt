@@ -145,7 +145,7 @@ calls_there (q ∷ qs) zero z m = omega arith
 calls_there (q ∷ qs) (suc w) z m = let r = calls_there qs w z m in omega (arith, r)
 
 -- without recursion no procedure calls one that reaches it
-no_return : (p : Tree) → recursion p ≡ None → (w z : ℕ) → Among z (calls_of p w) → reaches p (length p.procedures) z w ≡ false
+pub no_return : (p : Tree) → recursion p ≡ None → (w z : ℕ) → Among z (calls_of p w) → reaches p (length p.procedures) z w ≡ false
 no_return p none w z m =
     let there : w < length p.procedures = calls_there p.procedures w z m in
     let r = among_flat_from (λ (v : Visit). called_by v.form) z (body_visits (slice_index_or p.procedures w no_procedure).body) m in

@@ -8,5 +8,6 @@ pub mod DepthLemmas
 pub mod SideLemmas
 pub mod GrantedLemmas
 pub mod ReachedByChains
+pub mod RecursionByChains
 pub mod DepthByCalls
 pub mod SidesByCalls

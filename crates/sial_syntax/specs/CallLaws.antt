@@ -19,6 +19,12 @@ LeadsTo p from to = (chain : List ℕ) × CallsLead p from chain to
 abbrev pub ReachedByChains : Type 0
 ReachedByChains = (p : Tree) (from to : ℕ) → IsProper p → (reaches p (length p.procedures) from to ≡ true) ↔ LeadsTo p from to
 
+-- a program has no recursion exactly where no procedure calls one that leads back to it
+abbrev pub RecursionByChains : Type 0
+RecursionByChains =
+    (p : Tree)
+    → IsProper p → (recursion p ≡ None) ↔ ((procedure called : ℕ) → Contains (calls_of p procedure) called → LeadsTo p called procedure → ⊥)
+
 -- without recursion the depth of a procedure is 1 plus the greatest depth that it calls
 abbrev pub DepthByCalls : Type 0
 DepthByCalls =

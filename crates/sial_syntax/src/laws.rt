@@ -1,7 +1,7 @@
 //! What the definitions of boxes, kinds and calls say: laws that proofs above cite, with nothing to run.
 
 ghost use Rattle.sial_syntax.specs.BoxLaws.{NumbersOfRank, NumbersWithin, PlaceOfTuple, PlaceWithin, RankOfNumbers, RankWithin, TupleOfPlace, TuplesCounted, TuplesInOrder, TupleWithin};
-ghost use Rattle.sial_syntax.specs.CallLaws.{DepthByCalls, InnerByCalls, OuterByCalls, ReachedByChains};
+ghost use Rattle.sial_syntax.specs.CallLaws.{DepthByCalls, InnerByCalls, OuterByCalls, ReachedByChains, RecursionByChains};
 ghost use Rattle.sial_syntax.specs.KindLaws.{KindOfSegments, KindOfSubindex};
 
 /// The place of a tuple in its box, and the tuple at a place.
@@ -35,6 +35,7 @@ pub fn kinds_of_indices()
 /// Where chains of calls lead, how deep they go, and which sides they give.
 pub fn chains_of_calls()
     ensures reached { ReachedByChains }
+    ensures recursion { RecursionByChains }
     ensures depth { DepthByCalls }
     ensures outer { OuterByCalls }
     ensures inner { InnerByCalls }
