@@ -8,6 +8,8 @@ use Rattle.sip_files.specs.Sink.{Gains, GainsPart}
 use Rattle.sip_driver.specs.First.{Path, printed_text}
 use Rattle.sip_driver.specs.Loads.{Wanted, Loads, IsFirstUnread, AreRead, RanOut}
 use Rattle.sip_driver.specs.declared.answer.Answer.{Answer}
+use Rattle.sip_driver.specs.declared.texts.TextsFault.{TextsFault}
+use Rattle.sip_driver.specs.declared.texts.TextsFault.TheVariants as stop
 use Rattle.sip_driver.specs.declared.answer.Answer.TheVariants as answer
 use Rattle.sip_driver.specs.Profile.{IsFirst}
 
@@ -38,7 +40,13 @@ most_input = 1048576
 abbrev pub files_of : Names → List Wanted
 files_of names = record { name = names.program; most = most_program } ∷ record { name = names.input; most = most_input } ∷ []
 
--- what became of the loads of these files: all were read, or the first that wasn't is named, or memory ran out
+-- what became of the loads where the texts aren't at hand: the first file that isn't read is named, or memory ran out
+abbrev pub StoppedAt : Option Folder → (old new : Loads) → Names → TextsFault → Type 0
+StoppedAt told old new names stop.NoProgram = IsFirstUnread told old new (files_of names) names.program
+StoppedAt told old new names stop.NoInput = IsFirstUnread told old new (files_of names) names.input
+StoppedAt told old new names stop.OutOfMemory = RanOut told old new (files_of names)
+
+-- what became of the loads before an answer: all files were read, or the first that isn't is named, or memory ran out
 abbrev pub LoadsOf : Answer → Option Folder → (old new : Loads) → Names → Type 0
 LoadsOf answer.Done told old new names = AreRead told old new (files_of names)
 LoadsOf answer.NoProgram told old new names = IsFirstUnread told old new (files_of names) names.program

@@ -29,6 +29,7 @@ mod start;
 mod statements;
 mod status;
 mod text;
+mod texts;
 mod top;
 mod words;
 

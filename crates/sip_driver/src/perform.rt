@@ -10,16 +10,12 @@ use crate::answer::Answer;
 use crate::fault::RunFault;
 use crate::reader::read_first;
 use crate::run::run;
-use crate::text::{TextFault, load_text};
+use crate::texts::{TextsFault, load_texts};
 use sip_files::{Files, Sink};
 use std::alloc::Global;
 
-const MOST_PROGRAM: u64 = 16_777_216;
-
-const MOST_INPUT: u64 = 1_048_576;
-
 /// Loads two files and runs them, if their texts are of the first profile.
-#[tactic(auto, using(crate::proofs::TopLemmas::for_texts))]
+#[tactic(auto, using(crate::proofs::TopLemmas::loaded))]
 pub fn perform<F: Files, K: Sink>(
     alloc: Global,
     program: &str,
@@ -46,17 +42,12 @@ pub fn perform<F: Files, K: Sink>(
     ensures never_falls { K.faults out.old ≤ K.faults out.new }
     ensures kept { K.kept out.new ≡ K.kept out.old }
 {
-    let program_text = match load_text(alloc, files, program, MOST_PROGRAM) {
-        Ok(text) => text,
-        Err(TextFault::Unread) => return Answer::NoProgram,
-        Err(TextFault::OutOfMemory) => return Answer::OutOfMemory,
-    };
-    let input_text = match load_text(alloc, files, input, MOST_INPUT) {
-        Ok(text) => text,
-        Err(TextFault::Unread) => return Answer::NoInput,
-        Err(TextFault::OutOfMemory) => return Answer::OutOfMemory,
-    };
-    run_texts(alloc, program_text.as_slice(), input_text.as_slice(), out)
+    match load_texts(alloc, files, program, input) {
+        Ok(texts) => run_texts(alloc, texts.program.as_slice(), texts.input.as_slice(), out),
+        Err(TextsFault::NoProgram) => Answer::NoProgram,
+        Err(TextsFault::NoInput) => Answer::NoInput,
+        Err(TextsFault::OutOfMemory) => Answer::OutOfMemory,
+    }
 }
 
 // Runs two texts, if they are of the first profile.

@@ -1,14 +1,7 @@
-use Rattle.sip_driver.proofs.TopLemmas.{loaded, kept_or}
+use Rattle.sip_driver.specs.Top.{IsNotFirst}
+use Rattle.sip_driver.proofs.TopLemmas.{loaded}
 use Rattle.sip_driver.proofs.perform.perform.Goals as goal
 
-pub returns-clause-not_first : goal.returns-clause-not_first
-returns-clause-not_first g c = λ e.
-    loaded _ _ _ _ _ _ _ _ c.load_text.ensures.told c.in-Ok.ensures.ok c.in-Ok-load_text.ensures.ok c.as_slice.ensures.value c.as_slice-2.ensures.value (c.run_texts.ensures.not_first e)
-
-pub returns-clause-not_written : goal.returns-clause-not_written
-returns-clause-not_written g c = λ e.
-    loaded _ _ _ _ _ _ _ _ c.load_text.ensures.told c.in-Ok.ensures.ok c.in-Ok-load_text.ensures.ok c.as_slice.ensures.value c.as_slice-2.ensures.value (c.run_texts.ensures.not_written e)
-
-pub returns-clause-memory : goal.returns-clause-memory
-returns-clause-memory g c = λ e.
-    kept_or _ _ _ _ _ (loaded _ _ _ _ _ _ _ _ c.load_text.ensures.told c.in-Ok.ensures.ok c.in-Ok-load_text.ensures.ok c.as_slice.ensures.value c.as_slice-2.ensures.value (c.run_texts.ensures.memory e))
+pub returns-in-Ok-clause-not_first : goal.returns-in-Ok-clause-not_first
+returns-in-Ok-clause-not_first g c = λ e.
+    loaded _ _ _ _ _ _ IsNotFirst c.in-Ok.ensures.program c.in-Ok.ensures.input c.as_slice.ensures.value c.as_slice-in-Ok.ensures.value (c.run_texts.ensures.not_first e)
