@@ -1,0 +1,12 @@
+pub mod Rights
+pub mod OperandsSound
+pub mod EndsSound
+pub mod StatementsSound
+pub mod BodySound
+pub mod DeclarationsSound
+pub mod NoProcs
+pub mod ProgramSound
+pub mod OperandsAgain
+pub mod StatementsAgain
+pub mod ProgramAgain
+pub mod TextLemmas

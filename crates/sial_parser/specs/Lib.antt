@@ -1,0 +1,6 @@
+pub mod Scope
+pub mod Grammar
+pub mod Words
+pub mod Parsing
+pub mod Whole
+pub mod Laws
