@@ -3,6 +3,7 @@ pub mod ContractionLemmas
 mod Examples
 pub mod FilledLemmas
 pub mod FurtherLemmas
+pub mod LineLemmas
 pub mod Numbers
 pub mod OrderLemmas
 pub mod PanelLemmas

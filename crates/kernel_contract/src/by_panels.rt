@@ -11,7 +11,7 @@ ghost use Rattle.kernel_contract.specs.Sum.{sum_to};
 ghost use Rattle.kernel_contract.specs.Walks.{IsFilled, Stands, count, gone, place_at};
 
 use crate::axis::Axis;
-use crate::panel::{Panel, pack_columns, panel, panel_sums};
+use crate::panel::{Panel, pack, pack_columns, panel_sums};
 use crate::run::Run;
 use crate::storing::store;
 use crate::walk::Walk;
@@ -170,10 +170,11 @@ fn down<const FA: usize>(
         * column_entry panels.now k j) % 2 ^ 64)
         (count free_a.now) columns.now.len to.old to.new }
 {
+    let mut packed = [[0u64; 4]; 64];
     let mut rows = Walk::start(free_a);
     while rows.left {
         let run = rows.run::<4>(free_a);
-        let packed = panel(a, &run.a, &part.a, part.len);
+        pack(a, &run.a, &part.a, part.len, &mut packed);
         along(to, &run, columns, &packed, panels, part.len, how);
     }
 }

@@ -6,13 +6,14 @@ ghost use Rattle.kernel_contract.specs.Walks.{count};
 
 use crate::axis::Axis;
 use crate::by_panels::by_panels;
+use crate::laws::contract_plain;
 use crate::tiled::by_tiles;
 use kernel_permute::How;
 
 /// Contracts `a` and `b` along the shared axes, for each place of the free axes.
 ///
-/// A large contraction packs parts of both operands once and uses them for all rows and columns; a small
-/// one goes over its places in runs of up to four.
+/// A large contraction packs parts of both operands once and uses them for all rows and columns, a small
+/// one goes over its places in runs of up to four, and one with few rows or few columns number by number.
 pub fn contract<const FA: usize, const FB: usize, const S: usize>(
     a: &[u64],
     b: &[u64],
@@ -26,22 +27,22 @@ pub fn contract<const FA: usize, const FB: usize, const S: usize>(
         free_a.now free_b.now shared.now }
     ensures { Contracted a.now b.now to.old to.new free_a.now free_b.now shared.now how }
 {
-    if pays(size(free_a), size(free_b), size(shared)) {
+    let (rows, columns) = (size(free_a), size(free_b));
+    if rows < 4 || columns < 4 {
+        contract_plain(a, b, to, free_a, free_b, shared, how);
+    } else if pays(rows, columns, size(shared)) {
         by_panels(a, b, to, free_a, free_b, shared, how);
     } else {
         by_tiles(a, b, to, free_a, free_b, shared, how);
     }
 }
 
-// Panels cost some thousand writes before the first product, and always have four rows and four columns.
+// Panels cost some thousand writes before the first product.
 fn pays(rows: u64, columns: u64, places: u64) -> bool
     ensures rows { IsTrue result → 0 < rows }
     ensures places { IsTrue result → 0 < places }
 {
-    rows >= 4
-        && columns >= 4
-        && places >= 8
-        && rows.saturating_mul(columns).saturating_mul(places) >= LEAST
+    rows >= 1 && places >= 1 && rows.saturating_mul(columns).saturating_mul(places) >= LEAST
 }
 
 const LEAST: u64 = 4096;

@@ -1,4 +1,5 @@
-//! The plain contraction: what `contract` does, one number after the other.
+//! The plain contraction: what `contract` does, one number of the target after the other. It is also what
+//! `contract` does where there are few rows or few columns.
 
 ghost use Rattle.std.specs.Prelude.{◌≡◌, ◌+◌, ◌%◌, ◌^◌, ◌<◌, ◌≤◌, ℕ, length};
 ghost use Rattle.kernel_contract.specs.Contraction.{Contracted, Fits};
@@ -7,7 +8,7 @@ ghost use Rattle.kernel_contract.specs.Places.{offset_a, offset_b, offset_to};
 ghost use Rattle.kernel_contract.specs.Walks.{count, place_at};
 
 use crate::axis::Axis;
-use crate::packing::number_at;
+use crate::line::sum_along;
 use crate::storing::meet;
 use crate::walk::{Offsets, Walk};
 use kernel_permute::How;
@@ -59,30 +60,7 @@ fn plain_row<const FB: usize, const S: usize>(
     let mut column = Walk::start(free_b);
     while column.left {
         let here = column.step(free_b);
-        let value = plain_sum(a, b, row.a, here.b, shared);
+        let value = sum_along(a, b, row.a, here.b, shared);
         meet(to, row.to, here.to, value, how);
     }
-}
-
-// one number's value
-fn plain_sum<const S: usize>(
-    a: &[u64],
-    b: &[u64],
-    from_a: usize,
-    from_b: usize,
-    shared: &[Axis; S],
-) -> u64
-    requires in_a { Reaches offset_a shared.now from_a (length a.now) }
-    requires in_b { Reaches offset_b shared.now from_b (length b.now) }
-    ensures { result ≡ sum_from a.now b.now shared.now from_a from_b }
-{
-    let mut sum = 0u64;
-    let mut walk = Walk::start(shared);
-    while walk.left {
-        let here = walk.step(shared);
-        let left = number_at(a, from_a, here.a);
-        let right = number_at(b, from_b, here.b);
-        sum = sum.wrapping_add(left.wrapping_mul(right));
-    }
-    sum
 }

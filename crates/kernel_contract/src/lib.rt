@@ -6,6 +6,7 @@ mod by_panels;
 mod contracting;
 mod fronts;
 pub mod laws;
+mod line;
 mod order;
 mod packing;
 mod panel;

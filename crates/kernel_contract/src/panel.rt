@@ -15,17 +15,15 @@ pub const DEPTH: usize = 64;
 /// The numbers of four rows, or of four columns, at each place of a part.
 pub type Panel = [[u64; 4]; 64];
 
-/// The panel of four offsets at the places of a part.
-pub fn panel(from: &[u64], lanes: &[usize; 4], places: &[usize; 64], len: usize) -> Panel
+/// Packs the panel of four offsets at the places of a part.
+pub fn pack(from: &[u64], lanes: &[usize; 4], places: &[usize; 64], len: usize, panel: &mut Panel)
     requires few { len ≤ 64 }
     requires within { Loads lanes.now places.now 4 len (length from.now) }
-    ensures { IsPanel from.now lanes.now places.now len result }
+    ensures { IsPanel from.now lanes.now places.now len panel.new }
 {
-    let mut panel = [[0u64; 4]; 64];
     for k in 0..len {
         panel[k] = packed_row(from, places[k], lanes);
     }
-    panel
 }
 
 /// Packs a panel for each four columns at the places of a part.
@@ -39,7 +37,13 @@ pub fn pack_columns(from: &[u64], columns: &Run<64>, part: &Run<64>, panels: &mu
 {
     for q in 0..16usize {
         if 4 * q < columns.len {
-            panels[q] = panel(from, &columns.four(4 * q).b, &part.b, part.len);
+            pack(
+                from,
+                &columns.four(4 * q).b,
+                &part.b,
+                part.len,
+                &mut panels[q],
+            );
         }
     }
 }

@@ -10,8 +10,8 @@ use Rattle.kernel_contract.proofs.PartLemmas.{AreTargets-rows, AreTargets-same, 
 use Rattle.kernel_contract.proofs.SourceLemmas.{add-known, all-filled, known-add}
 use Rattle.kernel_contract.proofs.by_panels.down.Goals as goal
 
-pub panel-packed-requires-clause-within : goal.panel-packed-requires-clause-within
-panel-packed-requires-clause-within g c k i place lane =
+pub pack-requires-clause-within : goal.pack-requires-clause-within
+pack-requires-clause-within g c k i place lane =
     let first = gone c.args.free_a.now c.loop-rows.rows in
     let run = c.run-run.ensures.run in
     all-filled 4 (λ x. (get_or c.args.part.now.a k 0 + x) % 2 ^ 64 < length c.args.a.now) c.run-run.result.a c.run-run.result.len
@@ -45,12 +45,12 @@ loop-rows-preserved g c =
           c.args.to.now c.loop-rows.to c.along.new.to (omega (arith, c.run-run.ensures.gone, c.run-run.ensures.within))
           c.requires.targets c.loop-rows.invariant.done
           (Replaced-same c.args.how (λ i j. (get_or c.run-run.result.to i 0 + get_or c.args.columns.now.to j 0) % 2 ^ 64)
-          (λ i j. sum_to c.args.part.now.len (λ k. entry c.panel-packed.result k i * column_entry c.args.panels.now k j) % 2 ^ 64)
+          (λ i j. sum_to c.args.part.now.len (λ k. entry c.pack.new.panel k i * column_entry c.args.panels.now k j) % 2 ^ 64)
           (λ i j. T (first + i) j) (λ i j. V (first + i) j) c.run-run.result.len c.args.columns.now.len c.loop-rows.to c.along.new.to
           (λ i j row column. sym (known-add (get_or c.run-run.result.to i 0) (offset_to c.args.free_a.now (place_at c.args.free_a.now (first + i)))
           (get_or c.args.columns.now.to j 0) (c.run-run.ensures.run.to i row)))
-          (λ i j row column. panel_terms c.args.a.now c.run-run.result.a c.args.part.now.a c.panel-packed.result c.args.panels.now c.args.part.now.len i j
-          (offset_a c.args.free_a.now (place_at c.args.free_a.now (first + i))) c.panel-packed.ensures (omega (arith, c.run-run.ensures.run.len))
+          (λ i j row column. panel_terms c.args.a.now c.run-run.result.a c.args.part.now.a c.pack.new.panel c.args.panels.now c.args.part.now.len i j
+          (offset_a c.args.free_a.now (place_at c.args.free_a.now (first + i))) c.pack.ensures (omega (arith, c.run-run.ensures.run.len))
           (c.run-run.ensures.run.a i row))
           c.along.ensures));
     }

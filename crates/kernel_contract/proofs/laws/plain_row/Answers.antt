@@ -1,4 +1,4 @@
-use Rattle.std.proofs.Common.{◌≡◌, ◌<◌, ◌+◌, ◌%◌, ◌^◌, ◌∙◌, arith, refl, length, subst, sym, ℕ, rules}
+use Rattle.std.proofs.Common.{◌≡◌, ◌<◌, ◌+◌, ◌%◌, ◌^◌, ◌∙◌, arith, refl, length, subst, sym, ℕ}
 use Rattle.kernel_contract.specs.Parts.{Reaches, Replaced, sum_from}
 use Rattle.kernel_contract.specs.Places.{offset_b, offset_to}
 use Rattle.kernel_contract.specs.Walks.{count, gone, place_at}
@@ -6,13 +6,13 @@ use Rattle.kernel_contract.proofs.PartLemmas.{Replaced-next}
 use Rattle.kernel_contract.proofs.SourceLemmas.{add-known, known-add, sum_from-known}
 use Rattle.kernel_contract.proofs.laws.plain_row.Goals as goal
 
-pub plain_sum-value-requires : goal.plain_sum-value-requires
-plain_sum-value-requires g c =
+pub sum_along-value-requires : goal.sum_along-value-requires
+sum_along-value-requires g c =
     let at = gone c.args.free_b.now c.loop-column.column in
     let in_b : Reaches offset_b c.args.shared.now c.step-here.result.b (length c.args.b.now) =
     λ s p. rw (known-add c.step-here.result.b (offset_b c.args.free_b.now (place_at c.args.free_b.now at)) (offset_b c.args.shared.now s) c.step-here.ensures.offsets.b)
     (c.requires.in_b at (omega (arith, c.step-here.ensures.gone, c.step-here.ensures.within)) s p) in
-    (search rules, (c.requires.in_a at (omega (arith, c.step-here.ensures.gone, c.step-here.ensures.within)), in_b))
+    record { in_a = c.requires.in_a at (omega (arith, c.step-here.ensures.gone, c.step-here.ensures.within)); in_b = in_b }
 
 pub meet-requires : goal.meet-requires
 meet-requires g c =
@@ -27,8 +27,8 @@ loop-column-preserved g c =
     let V : ℕ → ℕ → ℕ = λ i j. sum_from c.args.a.now c.args.b.now c.args.shared.now c.args.row.a (offset_b c.args.free_b.now (place_at c.args.free_b.now j)) in
     let low : at < count c.args.free_b.now = omega (arith, c.step-here.ensures.gone, c.step-here.ensures.within) in
     let there : (c.args.row.to + c.step-here.result.to) % 2 ^ 64 ≡ T 0 at = add-known c.args.row.to _ _ c.step-here.ensures.offsets.to in
-    let value : c.plain_sum-value.result ≡ V 0 at =
-    c.plain_sum-value.ensures ∙ sum_from-known c.args.a.now c.args.b.now c.args.shared.now c.args.row.a _ _ c.step-here.ensures.offsets.b in
+    let value : c.sum_along-value.result ≡ V 0 at =
+    c.sum_along-value.ensures ∙ sum_from-known c.args.a.now c.args.b.now c.args.shared.now c.args.row.a _ _ c.step-here.ensures.offsets.b in
     record {
       stands = c.step-here.ensures.stands;
       done = rw (c.step-here.ensures.gone, c.meet.ensures)

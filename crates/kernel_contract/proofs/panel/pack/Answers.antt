@@ -1,7 +1,7 @@
 use Rattle.std.proofs.Common.{◌≡◌, ◌<◌, ℕ, [], ◌∙◌, arith, get_or, length-set}
 use Rattle.kernel_contract.specs.Panels.{loaded}
 use Rattle.kernel_contract.proofs.Steps.{front_step}
-use Rattle.kernel_contract.proofs.panel.panel.Goals as goal
+use Rattle.kernel_contract.proofs.panel.pack.Goals as goal
 
 pub loop-k-preserved : goal.loop-k-preserved
 loop-k-preserved c = record {

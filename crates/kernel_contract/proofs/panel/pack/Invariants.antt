@@ -1,6 +1,6 @@
 use Rattle.std.proofs.Common.{◌≡◌, length}
 use Rattle.kernel_contract.specs.Panels.{IsPanel}
-use Rattle.kernel_contract.proofs.panel.panel.Given as goal
+use Rattle.kernel_contract.proofs.panel.pack.Given as goal
 
 abbrev pub invariant-loop-k : goal.invariant-loop-k
 invariant-loop-k l = record {
