@@ -23,6 +23,7 @@ use Rattle.sial_meaning.specs.State.{Shared, State, blocks_of_class, with_class,
 use Rattle.sial_meaning.proofs.AlongLemmas.{class_here, class_other, next_here, next_other, epochs_rise}
 use Rattle.sial_meaning.proofs.AlongSteps.{Moves, stays, ends, course_moves}
 use Rattle.sial_meaning.proofs.DeedLemmas.{written_append}
+use Rattle.sial_meaning.proofs.PairLemmas.{class-is}
 use Rattle.sial_meaning.proofs.EachDeed.{Each, each_append, EachBefore, each_statement, each_iteration}
 
 -- of all deeds, the trap with them
@@ -161,13 +162,6 @@ module _ (class : Class) (epoch : ℕ) where
 write_apart : (t : Touch) (words : List ℕ) (shared : Shared) (class : Class) → same_class t.class class ≡ false → blocks_of_class (write_to t words shared) class ≡ blocks_of_class shared class
 write_apart t words shared class e = class_other shared t.class class _ e
 
--- a class is that class
-class_is : (a b : Class) → same_class a b ≡ true → a ≡ b
-class_is Distributed Distributed e = refl
-class_is Distributed Served e = absurd cc
-class_is Served Distributed e = absurd cc
-class_is Served Served e = refl
-
 -- a write to a class depends on the blocks of that class alone
 write_alike : (t : Touch) (words : List ℕ) (a b : Shared) (class : Class) → same_class t.class class ≡ true → blocks_of_class a class ≡ blocks_of_class b class → blocks_of_class (write_to t words a) class ≡ blocks_of_class (write_to t words b) class
 write_alike t words a b class e same = by_class t.class class e same
@@ -193,7 +187,7 @@ in_alike class v (Writes t words ∷ ds) a b e same = by_class (same_class t.cla
         → ((a b : Shared) → Each (OfTouch (InView v)) ds → blocks_of_class a class ≡ blocks_of_class b class → blocks_of_class (written (writes_in class (epoch_of v.epochs class) ds) a) class ≡ blocks_of_class (written ds b) class)
         → blocks_of_class (written (if same_class t.class class && (eqb t.epoch (epoch_of v.epochs class)) then Writes t words ∷ writes_in class (epoch_of v.epochs class) ds else writes_in class (epoch_of v.epochs class) ds) a) class ≡ blocks_of_class (written ds (write_to t words b)) class
     by_class true is more =
-        let here : eqb t.epoch (epoch_of v.epochs class) ≡ true = eq-eqb t.epoch (epoch_of v.epochs class) (e.0 ∙ ap (epoch_of v.epochs) (class_is t.class class is)) in
+        let here : eqb t.epoch (epoch_of v.epochs class) ≡ true = eq-eqb t.epoch (epoch_of v.epochs class) (e.0 ∙ ap (epoch_of v.epochs) (class-is t.class class is)) in
         ap (λ x. blocks_of_class (written (if x && (eqb t.epoch (epoch_of v.epochs class)) then Writes t words ∷ writes_in class (epoch_of v.epochs class) ds else writes_in class (epoch_of v.epochs class) ds) a) class) is
         ∙ (ap (λ x. blocks_of_class (written (if x then Writes t words ∷ writes_in class (epoch_of v.epochs class) ds else writes_in class (epoch_of v.epochs class) ds) a) class) here
         ∙ more (write_to t words a) (write_to t words b) e.1 (write_alike t words a b class is same))
@@ -228,7 +222,7 @@ not_next : (class : Class) (e : Class → ℕ) (touch : Touch) → touch.epoch �
 not_next class e touch low = by_test (same_class touch.class class) refl
   where
     by_test : (x : Bool) → same_class touch.class class ≡ x → (x && (eqb touch.epoch (e class + 1))) ≡ false
-    by_test true is = let same : e touch.class ≡ e class = ap e (class_is touch.class class is) in unequal touch.epoch (e class + 1) (λ equal. absurd (omega (arith, low, same, equal)))
+    by_test true is = let same : e touch.class ≡ e class = ap e (class-is touch.class class is) in unequal touch.epoch (e class + 1) (λ equal. absurd (omega (arith, low, same, equal)))
     by_test false is = refl
 
 module _ (g : Setting) (set : IsGrantedSetting g) (class : Class) where
