@@ -27,12 +27,12 @@ use Rattle.sial_meaning.proofs.PairLemmas.{class-is}
 use Rattle.sial_meaning.proofs.EachDeed.{Each, each_append, EachBefore, each_statement, each_iteration}
 
 -- of all deeds, the trap with them
-each_of : (P : Deed → Type 0) (x : Ran) → ((trap : _) → P (Traps trap)) → EachBefore P x → Each P (deeds_of x)
+pub each_of : (P : Deed → Type 0) (x : Ran) → ((trap : _) → P (Traps trap)) → EachBefore P x → Each P (deeds_of x)
 each_of P (Held before own) t e = e
 each_of P (Broke before trap own) t e = each_append P before (Traps trap ∷ []) e (t trap, tt)
 
 -- of those that are passed
-each_passed : (P : Deed → Type 0) (x : Ran) → EachBefore P x → Each P (deeds_if_passed x)
+pub each_passed : (P : Deed → Type 0) (x : Ran) → EachBefore P x → Each P (deeds_if_passed x)
 each_passed P (Held before own) e = e
 each_passed P (Broke before trap own) e = tt
 
@@ -70,12 +70,12 @@ from_in_view g s (Next at line (Pardo indices wheres body) rest) =
     (OfTouch (InView (view_of s)))
     (iteration_ran g (view_of s) (depth_left rest) wheres body own)
     (λ t. tt)
-    (each_iteration g (view_of s) (OfTouch (InView (view_of s))) (λ p l. refl) (λ p h l w. refl) (λ q m. tt) (depth_left rest) wheres body own))
+    (each_iteration g (view_of s) (OfTouch (InView (view_of s))) (λ p l. refl) (λ q m. tt) (λ p h l w. refl) (depth_left rest) wheres body own))
 from_in_view g s (Next at line form rest) =
     each_passed
     (OfTouch (InView (view_of s)))
     (statement_ran g (view_of s) line form s.own)
-    (each_statement g (view_of s) (OfTouch (InView (view_of s))) (λ p l. refl) (λ p h l w. refl) (λ q m. tt) line form s.own)
+    (each_statement g (view_of s) (OfTouch (InView (view_of s))) (λ p l. refl) (λ q m. tt) (λ p h l w. refl) line form s.own)
 from_in_view g s (Over at) = tt
 from_in_view g s (Turn loop last rest) = tt
 from_in_view g s (Join at rest) = tt
@@ -134,11 +134,11 @@ before_up_to g set (suc t) =
 
 module _ (class : Class) (epoch : ℕ) where
   -- an access is to this class in this epoch
-  abbrev is_here : Touch → Bool
+  abbrev pub is_here : Touch → Bool
   is_here touch = same_class touch.class class && (eqb touch.epoch epoch)
 
   -- the writes of some deeds and others
-  in_append : (a b : List Deed) → writes_in class epoch (a ++ b) ≡ writes_in class epoch a ++ writes_in class epoch b
+  pub in_append : (a b : List Deed) → writes_in class epoch (a ++ b) ≡ writes_in class epoch a ++ writes_in class epoch b
   in_append [] b = refl
   in_append (Reads t ∷ ds) b = in_append ds b
   in_append (Adds s n ∷ ds) b = in_append ds b
@@ -225,6 +225,33 @@ not_next class e touch low = by_test (same_class touch.class class) refl
     by_test true is = let same : e touch.class ≡ e class = ap e (class-is touch.class class is) in unequal touch.epoch (e class + 1) (λ equal. absurd (omega (arith, low, same, equal)))
     by_test false is = refl
 
+-- no write before a point or in its step is in the next epoch
+pub none_yet : (g : Setting) (set : IsGrantedSetting g) (class : Class) (t : ℕ) → writes_in class (epoch_at g t class + 1) (deeds_before g t ++ deeds_at g t) ≡ []
+none_yet g set class t =
+    in_none
+    class
+    (epoch_at g t class + 1)
+    (deeds_before g t ++ deeds_at g t)
+    (each_append
+    (OfTouch Later)
+    (deeds_before g t)
+    (deeds_at g t)
+    (each_with (OfTouch (UpTo g t)) (OfTouch Later) (deeds_before g t) past (before_up_to g set t))
+    (each_with (OfTouch (InView (view_of (state_at g t)))) (OfTouch Later) (deeds_at g t) now (from_in_view g (state_at g t) (course g t).work.rest)))
+  where
+    Later : Touch → Type 0
+    Later touch = is_here class (epoch_at g t class + 1) touch ≡ false
+    past : (d : Deed) → OfTouch (UpTo g t) d → OfTouch Later d
+    past (Reads touch) low = not_next class (epoch_at g t) touch low
+    past (Writes touch words) low = not_next class (epoch_at g t) touch low
+    past (Adds s n) low = tt
+    past (Traps trap) low = tt
+    now : (d : Deed) → OfTouch (InView (view_of (state_at g t))) d → OfTouch Later d
+    now (Reads touch) at = not_next class (epoch_at g t) touch (omega (arith, at))
+    now (Writes touch words) at = not_next class (epoch_at g t) touch (omega (arith, at))
+    now (Adds s n) at = tt
+    now (Traps trap) at = tt
+
 module _ (g : Setting) (set : IsGrantedSetting g) (class : Class) where
   -- the blocks by the deeds before a point, from these copies, in this epoch
   abbrev made : (epoch : ℕ) → List Deed → Shared → List (List ℕ)
@@ -258,33 +285,12 @@ module _ (g : Setting) (set : IsGrantedSetting g) (class : Class) where
       by_move (stays e c b) before = made_more t (epoch_at g (suc t) class) (state_at g (suc t)).copies (state_at g (suc t)).shared (ap (λ e. epoch_of e class) e) c b before
       by_move (ends other p none e c b) before = by_test (same_class other class) refl
         where
-          past : (d : Deed) → OfTouch (UpTo g t) d → OfTouch (λ touch. is_here class (epoch_at g t class + 1) touch ≡ false) d
-          past (Reads touch) low = not_next class (epoch_at g t) touch low
-          past (Writes touch words) low = not_next class (epoch_at g t) touch low
-          past (Adds s n) low = tt
-          past (Traps trap) low = tt
-          now : (d : Deed) → OfTouch (InView (view_of (state_at g t))) d → OfTouch (λ touch. is_here class (epoch_at g t class + 1) touch ≡ false) d
-          now (Reads touch) at = not_next class (epoch_at g t) touch (omega (arith, at))
-          now (Writes touch words) at = not_next class (epoch_at g t) touch (omega (arith, at))
-          now (Adds s n) at = tt
-          now (Traps trap) at = tt
           by_test : (x : Bool) → same_class other class ≡ x → blocks_at g (suc t) class ≡ made (epoch_at g (suc t) class) (deeds_before g t ++ deeds_at g t) (state_at g (suc t)).copies
           by_test true is =
               let later : epoch_at g (suc t) class ≡ epoch_at g t class + 1 = ap (λ e. epoch_of e class) e ∙ next_here (state_at g t).epochs other class is in
-              let nothing : writes_in class (epoch_at g t class + 1) (deeds_before g t ++ deeds_at g t) ≡ [] =
-              in_none
-              class
-              (epoch_at g t class + 1)
-              (deeds_before g t ++ deeds_at g t)
-              (each_append
-              (OfTouch (λ touch. is_here class (epoch_at g t class + 1) touch ≡ false))
-              (deeds_before g t)
-              (deeds_at g t)
-              (each_with (OfTouch (UpTo g t)) (OfTouch (λ touch. is_here class (epoch_at g t class + 1) touch ≡ false)) (deeds_before g t) past (before_up_to g set t))
-              (each_with (OfTouch (InView (view_of (state_at g t)))) (OfTouch (λ touch. is_here class (epoch_at g t class + 1) touch ≡ false)) (deeds_at g t) now (from_in_view g (state_at g t) (course g t).work.rest))) in
               sym
               (ap (λ n. made n (deeds_before g t ++ deeds_at g t) (state_at g (suc t)).copies) later
-              ∙ (ap (λ ds. blocks_of_class (written ds (state_at g (suc t)).copies) class) nothing
+              ∙ (ap (λ ds. blocks_of_class (written ds (state_at g (suc t)).copies) class) (none_yet g set class t)
               ∙ (ap (λ x. blocks_of_class x class) c ∙ class_here (state_at g t).copies other class (state_at g (suc t)).shared is)))
           by_test false is =
               let same : epoch_at g (suc t) class ≡ epoch_at g t class = ap (λ e. epoch_of e class) e ∙ next_other (state_at g t).epochs other class is in

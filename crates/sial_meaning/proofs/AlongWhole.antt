@@ -64,7 +64,7 @@ outcome-flags flags s (Held ds own) e = e
 outcome-flags flags s (Broke ds trap own) e = e
 
 -- numbers from one on, so many
-numbers-below : (first n k : ℕ) → Among k (numbers_from first n) → k < first + n
+pub numbers-below : (first n k : ℕ) → Among k (numbers_from first n) → k < first + n
 numbers-below first zero k a = absurd a
 numbers-below first (suc n) k (inl is) = omega (arith, is)
 numbers-below first (suc n) k (inr a) = let more = numbers-below (first + 1) n k a in omega (arith, more)
@@ -199,7 +199,7 @@ next-point-good g sound (Next at line form rest) s ts f work = stepped-good g (N
 next-point-good g sound r s ts f work = stepped-good g r s ts (step_from Copied g r s) work (step-good Copied g sound r s work)
 
 -- each point's work is good
-course-good : (g : Setting) (sound : IsSound g) (t : ℕ) → GoodWork g (course g t).work.rest (course g t).work.state
+pub course-good : (g : Setting) (sound : IsSound g) (t : ℕ) → GoodWork g (course g t).work.rest (course g t).work.state
 course-good g sound zero = steps-lead Copied g zero sound
 course-good g sound (suc t) = next-point-good g sound (course g t).work.rest (course g t).work.state (course g t).traps (course_fit g sound.setting t) (course-good g sound t)
 

@@ -21,6 +21,9 @@ pub mod AlongLemmas
 pub mod AlongDeeds
 pub mod FlagsKept
 pub mod AlongWhole
+pub mod FitWalk
+pub mod AlongFits
+pub mod EpochFits
 pub mod AdditionLemmas
 pub mod PartialLemmas
 pub mod ResetLemmas
