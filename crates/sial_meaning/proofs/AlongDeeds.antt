@@ -126,6 +126,7 @@ before_up_to g set (suc t) =
     later up (Writes touch words) e = let more = up touch in omega (arith, e, more)
     later up (Adds s n) e = tt
     later up (Traps trap) e = tt
+
     now : ((touch : Touch) → epoch_at g t touch.class ≤ epoch_at g (suc t) touch.class) → (d : Deed) → OfTouch (InView (view_of (state_at g t))) d → OfTouch (UpTo g (suc t)) d
     now up (Reads touch) e = let more = up touch in omega (arith, e, more)
     now up (Writes touch words) e = let more = up touch in omega (arith, e, more)
@@ -168,6 +169,7 @@ write_alike t words a b class e same = by_class t.class class e same
   where
     set_block : List (List ℕ) → List (List ℕ)
     set_block blocks = set blocks t.block (accessed_words t.kind (get_or blocks t.block []) words)
+
     by_class : (c d : Class) → same_class c d ≡ true → blocks_of_class a d ≡ blocks_of_class b d
         → blocks_of_class (with_class a c (set_block (blocks_of_class a c))) d ≡ blocks_of_class (with_class b c (set_block (blocks_of_class b c))) d
     by_class Distributed Distributed e same = ap set_block same
@@ -241,11 +243,13 @@ none_yet g set class t =
   where
     Later : Touch → Type 0
     Later touch = is_here class (epoch_at g t class + 1) touch ≡ false
+
     past : (d : Deed) → OfTouch (UpTo g t) d → OfTouch Later d
     past (Reads touch) low = not_next class (epoch_at g t) touch low
     past (Writes touch words) low = not_next class (epoch_at g t) touch low
     past (Adds s n) low = tt
     past (Traps trap) low = tt
+
     now : (d : Deed) → OfTouch (InView (view_of (state_at g t))) d → OfTouch Later d
     now (Reads touch) at = not_next class (epoch_at g t) touch (omega (arith, at))
     now (Writes touch words) at = not_next class (epoch_at g t) touch (omega (arith, at))

@@ -68,13 +68,13 @@ left_then : (a b : List Deed) (x y z : Left) → LeftBy a x y → LeftBy b y z �
 left_then a b x y z l m = record {
   log =
       m.log
-          ∙ (ap (λ log. log ++ touches b) l.log
-          ∙ (append_assoc x.state.log (touches a) (touches b) ∙ ap (λ more. x.state.log ++ more) (sym (touches_append a b))));
+      ∙ (ap (λ log. log ++ touches b) l.log
+      ∙ (append_assoc x.state.log (touches a) (touches b) ∙ ap (λ more. x.state.log ++ more) (sym (touches_append a b))));
   shared = m.shared ∙ (ap (written b) l.shared ∙ sym (written_append a b x.state.shared));
   partials = m.partials ∙ (ap (added b) l.partials ∙ sym (added_append a b x.state.partials));
   traps_are =
       m.traps_are
-          ∙ (ap (λ more. more ++ traps b) l.traps_are ∙ (append_assoc x.traps (traps a) (traps b) ∙ ap (λ more. x.traps ++ more) (sym (traps_append a b))));
+      ∙ (ap (λ more. more ++ traps b) l.traps_are ∙ (append_assoc x.traps (traps a) (traps b) ∙ ap (λ more. x.traps ++ more) (sym (traps_append a b))));
 }
 
 module _ (g : Setting) (set : IsGrantedSetting g) (d : ℕ) (indices these : List ℕ) (wheres : List Cond) (body : Block) (stands : PardoStands g set d indices these body) (enough : d ≤ call_depth) where

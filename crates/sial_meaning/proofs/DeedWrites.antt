@@ -32,6 +32,7 @@ write_is t words shared class block = by_classes t.class class
         (eqb-true t.block block e)
         (set_here xs t.block (λ old. accessed_words t.kind old words) refl)
     by_number xs false e = get_or-set_other xs t.block block (accessed_words t.kind (get_or xs t.block []) words) [] (λ same. eqb-false t.block block e (sym same))
+
     by_classes : (c d : Class) → shared_block (with_block shared c t.block (accessed_words t.kind (shared_block shared c t.block) words)) d block ≡ (if same_class c d && eqb t.block block then accessed_words t.kind (shared_block shared d block) words else shared_block shared d block)
     by_classes Distributed Distributed = by_number shared.distributed (eqb t.block block) refl
     by_classes Distributed Served = refl
@@ -129,6 +130,7 @@ module _ (class : Class) (block place : ℕ) where
             e
             (ap (λ c. if c then element_at words place else 0) e)
             (subst (λ (a : ℕ). R a ds (at (written ds (write_to t words shared)))) one others)
+
         by_test : ((s : Shared) → AreOnly s class block kind ds → R (at s) ds (at (written ds s))) → (b : Bool) → is_to class block t ≡ b → (if is_to class block t then kind t.kind && (length words == long shared) else true) ≡ true → list_all (is_only class block kind (long shared)) ds ≡ true → R (at shared) (Writes t words ∷ ds) (at (written ds (write_to t words shared)))
         by_test again b e first rest =
             let one = one_write t words shared b e (ap (λ c. if c then kind t.kind && (length words == long shared) else true) (sym e) ∙ first) in

@@ -54,6 +54,7 @@ module _ (long : Class → ℕ → ℕ) where
       same_block e =
           let parts = and_parts (same_class t.class class) (eqb t.block block) e in
           ap (λ c. long c t.block) (class-is t.class class parts.0) ∙ ap (long class) (eqb-true t.block block parts.1)
+
       by_test : (b : Bool) → is_to class block t ≡ b → length (if b then accessed_words t.kind (shared_block shared class block) words else shared_block shared class block) ≡ long class block
       by_test true e = accessed-long t.kind (shared_block shared class block) words (fits ∙ (same_block e ∙ sym (are class block))) ∙ are class block
       by_test false e = are class block

@@ -268,6 +268,7 @@ module _ (scalar : ℕ) where
         here : Among scalar (s ∷ []) → scalar ≡ s
         here (inl same) = same
         here (inr none) = absurd none
+
         by_test : (b : Bool) → contains (s ∷ []) scalar ≡ b → PartialsTo (sets_zero (Assign (target.Scalar s) o right) && b) st (statement Copied g line (Assign (target.Scalar s) o right) st) (statement_ran g (view_of st) line (Assign (target.Scalar s) o right) st.own)
         by_test true e =
             let among = among_from scalar (s ∷ []) e in

@@ -65,7 +65,7 @@ module _ (g : Setting) (set : IsGrantedSetting g) (v : View) where
     many = many;
     all =
         pushed_ran g v (p.at + 1 + length p.wheres) p.body (Within (code_of p) (number + 1) p.rest) held
-            ∙ (and_none (block_ran g v (calls_ran g v (depth_left p.rest)) p.body held) ∙ sym whole);
+        ∙ (and_none (block_ran g v (calls_ran g v (depth_left p.rest)) p.body held) ∙ sym whole);
   }
   begun_so t p number held indices false stands many whole = record { stands = tt; many = many; all = sym whole }
 
