@@ -54,7 +54,7 @@ done-whole g (Went s) rest good = good.whole
 done-whole g (Stopped trap s) rest good = good
 
 -- the state that an outcome leaves when it is noted
-noted-state : (ts : List Trap) (o : Outcome) → (noted ts o).state ≡ state_of o
+pub noted-state : (ts : List Trap) (o : Outcome) → (noted ts o).state ≡ state_of o
 noted-state ts (Went s) = refl
 noted-state ts (Stopped trap s) = refl
 

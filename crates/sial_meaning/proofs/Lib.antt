@@ -21,6 +21,7 @@ pub mod AlongLemmas
 pub mod AlongDeeds
 pub mod FlagsKept
 pub mod AlongWhole
+pub mod AlongNumbers
 pub mod FitWalk
 pub mod AlongFits
 pub mod EpochFits

@@ -9,6 +9,7 @@ use Rattle.sial_meaning.specs.CourseDeeds.{deeds_at, deeds_before}
 use Rattle.sial_meaning.specs.Deeds.{Deed, Reads, Writes, Adds, Traps, touches, written}
 use Rattle.sial_meaning.specs.Next as next
 use Rattle.sial_meaning.specs.Next.{Task, next_of, Asks, Local, Operands, Get, Put, Sync, Collect, asked}
+use Rattle.sial_meaning.specs.NumberStates.{HasNumbers}
 use Rattle.sial_meaning.specs.Passed.{passed}
 use Rattle.sial_meaning.specs.Setting.{Setting}
 use Rattle.sial_meaning.specs.Sound.{IsGrantedSetting, IsSound}
@@ -96,6 +97,10 @@ SameCountsOnePoint =
 -- each point's state is whole, behind noted traps too
 abbrev pub PointsAreWhole : Type 0
 PointsAreWhole = (g : Setting) → IsSound g → (t : ℕ) → IsWhole g (state_at g t)
+
+-- and its numbers are below 2^64
+abbrev pub PointsHaveNumbers : Type 0
+PointsHaveNumbers = (g : Setting) → IsSound g → (t : ℕ) → HasNumbers (state_at g t)
 
 -- each write of a step has as many elements as its block
 abbrev pub WritesFit : Type 0

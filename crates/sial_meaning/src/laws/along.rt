@@ -1,6 +1,6 @@
 //! What holds along the course: epochs, copies, blocks and counts.
 
-ghost use Rattle.sial_meaning.specs.AlongLaws.{BlocksAreCopiesWritten, CountsRise, EpochWritesFit, EpochsRise, OneEpochOneCopy, PointsAreWhole, SameCountsOnePoint, StepsTouchInTheirEpochs, SyncsSayEpochs, WritesFit};
+ghost use Rattle.sial_meaning.specs.AlongLaws.{BlocksAreCopiesWritten, CountsRise, EpochWritesFit, EpochsRise, OneEpochOneCopy, PointsAreWhole, PointsHaveNumbers, SameCountsOnePoint, StepsTouchInTheirEpochs, SyncsSayEpochs, WritesFit};
 ghost use Rattle.sial_meaning.specs.Resets.{PartialsAreSums};
 
 /// Epochs never fall, each has one copy, accesses carry the epochs of their points, and the blocks are the copies with what was written since.
@@ -18,9 +18,10 @@ pub fn counts_along_the_course()
     ensures points { SameCountsOnePoint }
 {}
 
-/// Each point of the course of a sound setting is whole, behind noted traps too.
+/// Each point of the course of a sound setting is whole and has numbers alone, behind noted traps too.
 pub fn points_are_whole()
-    ensures { PointsAreWhole }
+    ensures whole { PointsAreWhole }
+    ensures numbers { PointsHaveNumbers }
 {}
 
 /// At each point of the course the number of a partial scalar is the sum of the additions behind its last reset.
