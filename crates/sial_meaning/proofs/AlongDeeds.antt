@@ -15,7 +15,7 @@ use Rattle.sial_meaning.specs.Deeds.{Deed, Reads, Writes, Adds, Traps, touches, 
 use Rattle.sial_meaning.specs.Meaning.{taken_up}
 use Rattle.sial_meaning.specs.Own.{unset}
 use Rattle.sial_meaning.specs.Passed.{passed}
-use Rattle.sial_meaning.specs.Ran.{View, view_of, Ran, Held, Broke, deeds_of, statement_ran, iteration_ran}
+use Rattle.sial_meaning.specs.Ran.{View, view_of, Ran, Through, Broke, deeds_of, statement_ran, iteration_ran}
 use Rattle.sial_meaning.specs.Rest.{Rest, Over, Next, Turn, Join, Back, Within}
 use Rattle.sial_meaning.specs.Setting.{Setting}
 use Rattle.sial_meaning.specs.Sound.{IsGrantedSetting}
@@ -28,12 +28,12 @@ use Rattle.sial_meaning.proofs.EachDeed.{Each, each_append, EachBefore, each_sta
 
 -- of all deeds, the trap with them
 pub each_of : (P : Deed → Type 0) (x : Ran) → ((trap : _) → P (Traps trap)) → EachBefore P x → Each P (deeds_of x)
-each_of P (Held before own) t e = e
+each_of P (Through before own) t e = e
 each_of P (Broke before trap own) t e = each_append P before (Traps trap ∷ []) e (t trap, tt)
 
 -- of those that are passed
 pub each_passed : (P : Deed → Type 0) (x : Ran) → EachBefore P x → Each P (deeds_if_passed x)
-each_passed P (Held before own) e = e
+each_passed P (Through before own) e = e
 each_passed P (Broke before trap own) e = tt
 
 -- of the deeds of each number

@@ -17,7 +17,7 @@ use Rattle.sial_meaning.specs.Control.{begun, pardo_at}
 use Rattle.sial_meaning.specs.Course.{Left, noted, iterations, stepped, next_from, course}
 use Rattle.sial_meaning.specs.Meaning.{block_meaning, calls, call_depth, iteration, unless_left_out, all_met, taken_up, left}
 use Rattle.sial_meaning.specs.Own.{Own, unset}
-use Rattle.sial_meaning.specs.Ran.{view_of, Ran, Held, Broke, outcome_in, iteration_ran}
+use Rattle.sial_meaning.specs.Ran.{view_of, Ran, Through, Broke, outcome_in, iteration_ran}
 use Rattle.sial_meaning.specs.Rest.{PardoAt, Rest, Next, Within, push, depth}
 use Rattle.sial_meaning.specs.Setting.{Setting}
 use Rattle.sial_meaning.specs.Sound.{IsSound}
@@ -60,7 +60,7 @@ noted-state ts (Stopped trap s) = refl
 
 -- the created flags of an outcome
 outcome-flags : (flags : List Bool) (s : State) (x : Ran) → HasFlags flags x → (state_of (outcome_in s x)).own.created ≡ flags
-outcome-flags flags s (Held ds own) e = e
+outcome-flags flags s (Through ds own) e = e
 outcome-flags flags s (Broke ds trap own) e = e
 
 -- numbers from one on, so many

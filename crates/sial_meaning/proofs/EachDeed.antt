@@ -14,7 +14,7 @@ use Rattle.sial_meaning.specs.Deeds.{Deed, Reads, Writes, Adds, Traps, traps}
 use Rattle.sial_meaning.specs.LocalStep.{Done, Answer, words_of, local_step}
 use Rattle.sial_meaning.specs.Meaning.{condition, all_met, segments_over, pieces_over}
 use Rattle.sial_meaning.specs.Own.{Own, bound, none_bound, with_values}
-use Rattle.sial_meaning.specs.Ran.{View, Ran, Held, Broke, behind, and_so, ran_over, ran_by, touch_of, reads_done, values_seen, no_partials, added_to, additions, local_ran, put_ran, effect_ran, unless_broken, statement_ran, block_ran, form_ran, calls_ran, ran_unless_left_out, iteration_ran}
+use Rattle.sial_meaning.specs.Ran.{View, Ran, Through, Broke, behind, and_so, ran_over, ran_by, touch_of, reads_done, values_seen, no_partials, added_to, additions, local_ran, put_ran, effect_ran, unless_broken, statement_ran, block_ran, form_ran, calls_ran, ran_unless_left_out, iteration_ran}
 use Rattle.sial_meaning.specs.Setting.{Setting, procedure_body, scalar_class}
 use Rattle.sial_meaning.specs.Statement.{Named, named, reads_of, created_trap}
 
@@ -30,18 +30,18 @@ each_append P (d ∷ ds) b e f = (e.0, each_append P ds b e.1 f)
 
 -- of each deed before the end
 abbrev pub EachBefore : (Deed → Type 0) → Ran → Type 0
-EachBefore P (Held before own) = Each P before
+EachBefore P (Through before own) = Each P before
 EachBefore P (Broke before trap own) = Each P before
 
 module _ (g : Setting) (v : View) (P : Deed → Type 0) (reads : (place : Named) (line : ℕ) → P (Reads (touch_of v place Read line))) (adds : (scalar n : ℕ) → P (Adds scalar n)) where
   -- what was done behind other deeds
   pub each_behind : (first : List Deed) (x : Ran) → Each P first → EachBefore P x → EachBefore P (behind first x)
-  each_behind first (Held before own) e f = each_append P first before e f
+  each_behind first (Through before own) e f = each_append P first before e f
   each_behind first (Broke before trap own) e f = each_append P first before e f
 
   -- one thing after another
   each_then : (x : Ran) (next : Own → Ran) → EachBefore P x → ((own : Own) → EachBefore P (next own)) → EachBefore P (and_so x next)
-  each_then (Held before own) next e h = each_behind before (next own) e (h own)
+  each_then (Through before own) next e h = each_behind before (next own) e (h own)
   each_then (Broke before trap own) next e h = e
 
   -- one thing after another for each number
@@ -119,17 +119,17 @@ module _ (g : Setting) (v : View) (P : Deed → Type 0) (reads : (place : Named)
         each_form line (Do index body) own =
             each_then
             (ran_over (segments_over g index) (λ k o. block_ran g v call body (bound index k o)) own)
-            (λ o. Held [] (bound index 0 o))
+            (λ o. Through [] (bound index 0 o))
             (each_over (segments_over g index) (λ k o. block_ran g v call body (bound index k o)) (λ k o. each_block body (bound index k o)) own)
             (λ o. tt)
         each_form line (DoIn sub index body) own =
             each_then
             (ran_over (pieces_over g own sub index) (λ k o. block_ran g v call body (bound sub k o)) own)
-            (λ o. Held [] (bound sub 0 o))
+            (λ o. Through [] (bound sub 0 o))
             (each_over (pieces_over g own sub index) (λ k o. block_ran g v call body (bound sub k o)) (λ k o. each_block body (bound sub k o)) own)
             (λ o. tt)
         each_form line (Pardo indices wheres body) own = tt
-        each_form line (If test body) own = each_by line (condition own test) (block_ran g v call body) (Held []) own (each_block body own) tt
+        each_form line (If test body) own = each_by line (condition own test) (block_ran g v call body) (Through []) own (each_block body own) tt
         each_form line (IfElse test body other) own = each_by line (condition own test) (block_ran g v call body) (block_ran g v call other) own (each_block body own) (each_block other own)
         each_form line (Call procedure) own = calls_each procedure own
         each_form line form own = each_statement line form own
@@ -140,7 +140,7 @@ module _ (g : Setting) (v : View) (P : Deed → Type 0) (reads : (place : Named)
     each_call (suc depth) q own =
         each_then
         (block_ran g v (calls_ran g v depth) (procedure_body g q) (none_bound own))
-        (λ o. Held [] (with_values own.values o))
+        (λ o. Through [] (with_values own.values o))
         (each_block (calls_ran g v depth) (each_call depth) (procedure_body g q) (none_bound own))
         (λ o. tt)
 
@@ -156,7 +156,7 @@ module _ (g : Setting) (v : View) (P : Deed → Type 0) (reads : (place : Named)
 
 -- no trap is among the deeds before the end
 abbrev pub Clear : Ran → Type 0
-Clear (Held before own) = traps before ≡ []
+Clear (Through before own) = traps before ≡ []
 Clear (Broke before trap own) = traps before ≡ []
 
 -- whether a deed is no trap
@@ -173,7 +173,7 @@ none_traps (Traps t ∷ ds) e = absurd cc
 
 -- none before the end
 clear_by : (x : Ran) → EachBefore IsNoTrap x → Clear x
-clear_by (Held before own) e = none_traps before e
+clear_by (Through before own) e = none_traps before e
 clear_by (Broke before trap own) e = none_traps before e
 
 -- a statement

@@ -13,7 +13,7 @@ use Rattle.sial_meaning.specs.Deeds.{Deed, Reads, Writes, Adds, Traps, write_to,
 use Rattle.sial_meaning.specs.DeedSums.{is_to}
 use Rattle.sial_meaning.specs.LocalStep.{Answer, words_of, local_step}
 use Rattle.sial_meaning.specs.Own.{Own}
-use Rattle.sial_meaning.specs.Ran.{View, view_of, Ran, Held, Broke, outcome_in, touch_of, reads_done, values_seen, no_partials, put_ran, effect_ran, unless_broken, statement_ran}
+use Rattle.sial_meaning.specs.Ran.{View, view_of, Ran, Through, Broke, outcome_in, touch_of, reads_done, values_seen, no_partials, put_ran, effect_ran, unless_broken, statement_ran}
 use Rattle.sial_meaning.specs.Rest.{PardoAt, Rest, Over, Next, Turn, Join, Back, Within}
 use Rattle.sial_meaning.specs.Setting.{Setting}
 use Rattle.sial_meaning.specs.Sound.{IsSound}
@@ -123,7 +123,7 @@ module _ (long : Class → ℕ → ℕ) where
 
       -- by a statement
       done-walks : (n : ℕ) → WalksTo n → (r : Rest) (s : State) (x : Ran) (rest : Rest) → AreLong s.shared → EachBefore Fits x → Took g sound.setting (view_of s) r s.own (done_on x rest) → GoodAt g (done (outcome_in s x) rest) → (o : Outcome) → go_on (steps Copied g n) (done (outcome_in s x) rest) ≡ done o to → EachBefore Fits (rest_ran g (view_of s) r s.own)
-      done-walks n more r s (Held ds own) rest are fits took good o e =
+      done-walks n more r s (Through ds own) rest are fits took good o e =
           subst
           (EachBefore Fits)
           (sym took.1)

@@ -28,7 +28,7 @@ use Rattle.sial_meaning.specs.CourseDeeds.{deeds_if_passed}
 use Rattle.sial_meaning.specs.Deeds.{Deed, Reads, Writes, Adds}
 use Rattle.sial_meaning.specs.LocalStep.{Done, Answer, and_then, or_trap, quiet, scalar_assigned, scalar_value, scalar_line, to_scalar, to_target, needs_old, with_words, old_words, words_of, matched, is_allocated, integrals, side_read, all_allocated, all_deallocated, local_step}
 use Rattle.sial_meaning.specs.Own.{Own, sight, scalar_of}
-use Rattle.sial_meaning.specs.Ran.{View, view_of, Ran, Held, touch_of, reads_done, no_partials, added_to, additions, local_ran, put_ran, effect_ran, unless_broken, statement_ran}
+use Rattle.sial_meaning.specs.Ran.{View, view_of, Ran, Through, touch_of, reads_done, no_partials, added_to, additions, local_ran, put_ran, effect_ran, unless_broken, statement_ran}
 use Rattle.sial_meaning.specs.Resets.{adds_to}
 use Rattle.sial_meaning.specs.Right.{Plain as Uniform, Side, Alone, assigned, is_insertion}
 use Rattle.sial_meaning.specs.Setting.{Setting, array_kind, scalar_class}
@@ -219,7 +219,7 @@ module _ (scalar : ℕ) where
     reset_partials line op.Scale right st e there = absurd cc
 
     -- reads alone
-    reads_partials : (line : ℕ) (blocks : List BlockRef) (st : State) → PartialsTo false st (Went (reads_logged g line blocks st)) (Held (reads_done g (view_of st) line st.own blocks) st.own)
+    reads_partials : (line : ℕ) (blocks : List BlockRef) (st : State) → PartialsTo false st (Went (reads_logged g line blocks st)) (Through (reads_done g (view_of st) line st.own blocks) st.own)
     reads_partials line blocks st =
         let is = reads_are g line blocks st in
         let same : (reads_logged g line blocks st).partials ≡ st.partials = ap (λ (t : State). t.partials) is ∙ reads_added g (view_of st) line st.own blocks st.partials in

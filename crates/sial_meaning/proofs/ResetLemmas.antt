@@ -15,7 +15,7 @@ use Rattle.sial_meaning.specs.Course.{Point, stepped, next_from, course}
 use Rattle.sial_meaning.specs.CourseDeeds.{deeds_if_passed, deeds_from, deeds_at}
 use Rattle.sial_meaning.specs.Deeds.{Deed}
 use Rattle.sial_meaning.specs.Number.{plus}
-use Rattle.sial_meaning.specs.Ran.{view_of, Ran, Held, Broke, statement_ran}
+use Rattle.sial_meaning.specs.Ran.{view_of, Ran, Through, Broke, statement_ran}
 use Rattle.sial_meaning.specs.Resets.{resets, last_reset, deeds_between, adds_to, PartialsAreSums}
 use Rattle.sial_meaning.specs.Rest.{Rest, Over, Next, Turn, Join, Back, Within}
 use Rattle.sial_meaning.specs.Setting.{Setting, scalar_class}
@@ -52,7 +52,7 @@ module _ (scalar : ℕ) (g : Setting) (partial : scalar_class g scalar ≡ Parti
     more = λ e low. let none = h.nothing refl in let same = h.number in omega (arith, low, none, same);
   }
   done_steps true p (Stopped trap t) x rest l h = absurd (let never : true ≡ false = h in cc)
-  done_steps false p (Stopped trap t) (Held ds own) rest l h = absurd l
+  done_steps false p (Stopped trap t) (Through ds own) rest l h = absurd l
   done_steps false p (Stopped trap t) (Broke ds other own) rest l h = steps_none p.work.state.partials
 
   -- by control

@@ -14,7 +14,7 @@ use Rattle.sial_meaning.specs.Control.{depth_left, entered, turned, branched, ca
 use Rattle.sial_meaning.specs.LocalStep.{Answer}
 use Rattle.sial_meaning.specs.Meaning.{call_depth, condition}
 use Rattle.sial_meaning.specs.Own.{Own, value_of, bound, none_bound, with_values}
-use Rattle.sial_meaning.specs.Ran.{View, Ran, Held, Broke, behind, and_so, ran_over, ran_then, ran_by, statement_ran, block_ran, calls_ran}
+use Rattle.sial_meaning.specs.Ran.{View, Ran, Through, Broke, behind, and_so, ran_over, ran_then, ran_by, statement_ran, block_ran, calls_ran}
 use Rattle.sial_meaning.specs.Rest.{LoopAt, Rest, Over, Next, Turn, Join, Back, Within, push, depth}
 use Rattle.sial_meaning.specs.Setting.{Setting, procedure_body}
 use Rattle.sial_meaning.specs.Sound.{IsGrantedSetting}
@@ -40,7 +40,7 @@ module _ (g : Setting) (set : IsGrantedSetting g) where
     turns_ran loop last first n rest own indices within ends there b =
         let turn : ℕ → Own → Ran = λ k o. block_ran g v (calls_ran g v (depth_left rest)) loop.body (bound loop.index k o) in
         let others : Own → Ran = ran_over (numbers_from (first + 1) n) turn in
-        let past : Own → Ran = λ o. Held [] (bound loop.index 0 o) in
+        let past : Own → Ran = λ o. Through [] (bound loop.index 0 o) in
         ap (λ x. and_so x (rest_ran g v rest)) (and_and (turn first own) others past)
         ∙ (and_and (turn first own) (λ o. and_so (others o) past) (rest_ran g v rest)
         ∙ (and_same
@@ -56,7 +56,7 @@ module _ (g : Setting) (set : IsGrantedSetting g) where
         ∙ sym (pushed_ran g v (loop.head + 1) loop.body (Turn loop last rest) (bound loop.index first own))))
 
     -- a loop that has no number left
-    no_turns : (loop : LoopAt) (rest : Rest) (own : Own) → and_so (ran_then (Held [] own) (bound loop.index 0)) (rest_ran g v rest) ≡ behind [] (rest_ran g v rest (bound loop.index 0 own))
+    no_turns : (loop : LoopAt) (rest : Rest) (own : Own) → and_so (ran_then (Through [] own) (bound loop.index 0)) (rest_ran g v rest) ≡ behind [] (rest_ran g v rest (bound loop.index 0 own))
     no_turns loop rest own = refl
 
     -- a loop entered
@@ -120,8 +120,8 @@ module _ (g : Setting) (set : IsGrantedSetting g) where
           ),
           e
               ∙ (ap (λ d. and_so (calls_ran g v d q own) (rest_ran g v rest)) deeper
-              ∙ (and_and x (λ o. Held [] (with_values own.values o)) (rest_ran g v rest)
-              ∙ (and_same x (λ o. and_so (Held [] (with_values own.values o)) (rest_ran g v rest)) (rest_ran g v back) (λ ds o was. behind_none (rest_ran g v rest (with_values own.values o)))
+              ∙ (and_and x (λ o. Through [] (with_values own.values o)) (rest_ran g v rest)
+              ∙ (and_same x (λ o. and_so (Through [] (with_values own.values o)) (rest_ran g v rest)) (rest_ran g v back) (λ ds o was. behind_none (rest_ran g v rest (with_values own.values o)))
               ∙ (sym (pushed_ran g v (entry_of g.program q) (procedure_body g q) back (none_bound own))
               ∙ sym (behind_none (rest_ran g v (push (entry_of g.program q) (procedure_body g q) back) (none_bound own))))))),
         )
@@ -133,7 +133,7 @@ module _ (g : Setting) (set : IsGrantedSetting g) where
     -- a statement that holds no other
     done_took : (at line : ℕ) (form : Plain) (rest : Rest) (own : Own) → Calm g form → RestIn g set rest → AsMany g set own → (x : Ran) → statement_ran g v line form own ≡ x
         → rest_ran g v (Next at line form rest) own ≡ and_so x (rest_ran g v rest) → Took v (Next at line form rest) own (done_on x rest)
-    done_took at line form rest own calm others many (Held ds o) is e = ((others, ap length (statement_keeps g set v line form calm own o ds is) ∙ many), e)
+    done_took at line form rest own calm others many (Through ds o) is e = ((others, ap length (statement_keeps g set v line form calm own o ds is) ∙ many), e)
     done_took at line form rest own calm others many (Broke ds trap o) is e = e
 
     -- each step inside
@@ -185,7 +185,7 @@ module _ (g : Setting) (set : IsGrantedSetting g) where
         rest
         own
         (block_ran g v (calls_ran g v (depth_left rest)) body)
-        (Held [])
+        (Through [])
         rest
         (Next at line (If test body) rest)
         (pushed_in g set r.0.0 r.0.1 (at + 1) body (Join (at + 1 + sizes body) rest) (record { proper = parts.1; unbroken = f.unbroken; calm = f.calm }) r.1)

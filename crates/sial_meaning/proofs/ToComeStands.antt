@@ -12,7 +12,7 @@ use Rattle.sial_meaning.specs.Control.{depth_left}
 use Rattle.sial_meaning.specs.Deeds.{Deed}
 use Rattle.sial_meaning.specs.Meaning.{block_meaning, calls, call_depth}
 use Rattle.sial_meaning.specs.Own.{Own}
-use Rattle.sial_meaning.specs.Ran.{View, Ran, Held, Broke, outcome_in, behind, and_so, statement_ran, block_ran, form_ran, calls_ran}
+use Rattle.sial_meaning.specs.Ran.{View, Ran, Through, Broke, outcome_in, behind, and_so, statement_ran, block_ran, form_ran, calls_ran}
 use Rattle.sial_meaning.specs.Rest.{Rest, Over, Next, Turn, Join, Back, Within, push}
 use Rattle.sial_meaning.specs.Setting.{Setting}
 use Rattle.sial_meaning.specs.Sound.{IsGrantedSetting}
@@ -30,32 +30,32 @@ use Rattle.sial_meaning.proofs.RestLemmasTurns.{depth_pushed}
 
 -- nothing before
 pub behind_none : (x : Ran) → behind [] x ≡ x
-behind_none (Held ds own) = refl
+behind_none (Through ds own) = refl
 behind_none (Broke ds trap own) = refl
 
 -- some deeds before, and others before those
 pub behind_append : (a b : List Deed) (x : Ran) → behind (a ++ b) x ≡ behind a (behind b x)
-behind_append a b (Held ds own) = ap (λ es. Held es own) (append_assoc a b ds)
+behind_append a b (Through ds own) = ap (λ es. Through es own) (append_assoc a b ds)
 behind_append a b (Broke ds trap own) = ap (λ es. Broke es trap own) (append_assoc a b ds)
 
 -- what follows deeds that were done
 and_behind : (ds : List Deed) (x : Ran) (f : Own → Ran) → and_so (behind ds x) f ≡ behind ds (and_so x f)
-and_behind ds (Held es own) f = behind_append ds es (f own)
+and_behind ds (Through es own) f = behind_append ds es (f own)
 and_behind ds (Broke es trap own) f = refl
 
 -- one thing after another, and then a third
 pub and_and : (x : Ran) (f h : Own → Ran) → and_so (and_so x f) h ≡ and_so x (λ o. and_so (f o) h)
-and_and (Held ds own) f h = and_behind ds (f own) h
+and_and (Through ds own) f h = and_behind ds (f own) h
 and_and (Broke ds trap own) f h = refl
 
 -- one thing and nothing more
-pub and_none : (x : Ran) → and_so x (Held []) ≡ x
-and_none (Held ds own) = ap (λ es. Held es own) (append-nil ds)
+pub and_none : (x : Ran) → and_so x (Through []) ≡ x
+and_none (Through ds own) = ap (λ es. Through es own) (append-nil ds)
 and_none (Broke ds trap own) = refl
 
 -- what follows is the same wherever the first thing leads
-pub and_same : (x : Ran) (f h : Own → Ran) → ((ds : List Deed) (o : Own) → x ≡ Held ds o → f o ≡ h o) → and_so x f ≡ and_so x h
-and_same (Held ds own) f h e = ap (behind ds) (e ds own refl)
+pub and_same : (x : Ran) (f h : Own → Ran) → ((ds : List Deed) (o : Own) → x ≡ Through ds o → f o ≡ h o) → and_so x f ≡ and_so x h
+and_same (Through ds own) f h e = ap (behind ds) (e ds own refl)
 and_same (Broke ds trap own) f h e = refl
 
 -- statements before the rest
@@ -75,7 +75,7 @@ abbrev bare : View → Own → State
 bare v own = record { own = own; partials = []; shared = v.copies; copies = v.copies; epochs = v.epochs; lines = []; log = [] }
 
 -- where an outcome went, and what the worker held there
-went_own : (s : State) (x : Ran) (ds : List Deed) (o : Own) → x ≡ Held ds o → (t : State) × (outcome_in s x ≡ Went t) × (t.own ≡ o)
+went_own : (s : State) (x : Ran) (ds : List Deed) (o : Own) → x ≡ Through ds o → (t : State) × (outcome_in s x ≡ Went t) × (t.own ≡ o)
 went_own s x ds o e = (_, ap (outcome_in s) e, refl)
 
 module _ (g : Setting) (set : IsGrantedSetting g) where
@@ -134,7 +134,7 @@ module _ (g : Setting) (set : IsGrantedSetting g) where
       let first = first_in indices within line form more b in ((indices, within, first.0), pushed_in indices within (at + size form) more rest first.1 r)
 
   -- a body leaves the numbers of the indices that are bound there
-  pub body_keeps : (v : View) (d : ℕ) (indices : List ℕ) (within : Bool) (body : Block) → BodyIn indices within body → (own o : Own) (ds : List Deed) → block_ran g v (calls_ran g v d) body own ≡ Held ds o → Kept indices own o
+  pub body_keeps : (v : View) (d : ℕ) (indices : List ℕ) (within : Bool) (body : Block) → BodyIn indices within body → (own o : Own) (ds : List Deed) → block_ran g v (calls_ran g v d) body own ≡ Through ds o → Kept indices own o
   body_keeps v d indices within body b own o ds e =
       let s : State = bare v own in
       let went = went_own s (block_ran g v (calls_ran g v d) body own) ds o e in
@@ -146,7 +146,7 @@ module _ (g : Setting) (set : IsGrantedSetting g) where
       (kept_went indices own (block_meaning Copied g (calls Copied g d) body s) went.0 (block_kept Copied g (calls Copied g d) (calls_go Copied g d) indices within body b.unbroken s) same)
 
   -- a statement leaves all numbers
-  pub statement_keeps : (v : View) (line : ℕ) (form : Plain) → Calm g form → (own o : Own) (ds : List Deed) → statement_ran g v line form own ≡ Held ds o → o.values ≡ own.values
+  pub statement_keeps : (v : View) (line : ℕ) (form : Plain) → Calm g form → (own o : Own) (ds : List Deed) → statement_ran g v line form own ≡ Through ds o → o.values ≡ own.values
   statement_keeps v line form calm own o ds e =
       let s : State = bare v own in
       let went = went_own s (statement_ran g v line form own) ds o e in
