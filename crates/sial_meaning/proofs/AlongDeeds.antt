@@ -15,7 +15,7 @@ use Rattle.sial_meaning.specs.Deeds.{Deed, Reads, Writes, Adds, Traps, touches, 
 use Rattle.sial_meaning.specs.Meaning.{taken_up}
 use Rattle.sial_meaning.specs.Own.{unset}
 use Rattle.sial_meaning.specs.Passed.{passed}
-use Rattle.sial_meaning.specs.Ran.{View, view_of, Ran, Held, Broke, deeds_of, statement_ran, iteration_ran}
+use Rattle.sial_meaning.specs.Ran.{View, view_of, Ran, Through, Broke, deeds_of, statement_ran, iteration_ran}
 use Rattle.sial_meaning.specs.Rest.{Rest, Over, Next, Turn, Join, Back, Within}
 use Rattle.sial_meaning.specs.Setting.{Setting}
 use Rattle.sial_meaning.specs.Sound.{IsGrantedSetting}
@@ -23,16 +23,17 @@ use Rattle.sial_meaning.specs.State.{Shared, State, blocks_of_class, with_class,
 use Rattle.sial_meaning.proofs.AlongLemmas.{class_here, class_other, next_here, next_other, epochs_rise}
 use Rattle.sial_meaning.proofs.AlongSteps.{Moves, stays, ends, course_moves}
 use Rattle.sial_meaning.proofs.DeedLemmas.{written_append}
+use Rattle.sial_meaning.proofs.PairLemmas.{class-is}
 use Rattle.sial_meaning.proofs.EachDeed.{Each, each_append, EachBefore, each_statement, each_iteration}
 
 -- of all deeds, the trap with them
-each_of : (P : Deed → Type 0) (x : Ran) → ((trap : _) → P (Traps trap)) → EachBefore P x → Each P (deeds_of x)
-each_of P (Held before own) t e = e
+pub each_of : (P : Deed → Type 0) (x : Ran) → ((trap : _) → P (Traps trap)) → EachBefore P x → Each P (deeds_of x)
+each_of P (Through before own) t e = e
 each_of P (Broke before trap own) t e = each_append P before (Traps trap ∷ []) e (t trap, tt)
 
 -- of those that are passed
-each_passed : (P : Deed → Type 0) (x : Ran) → EachBefore P x → Each P (deeds_if_passed x)
-each_passed P (Held before own) e = e
+pub each_passed : (P : Deed → Type 0) (x : Ran) → EachBefore P x → Each P (deeds_if_passed x)
+each_passed P (Through before own) e = e
 each_passed P (Broke before trap own) e = tt
 
 -- of the deeds of each number
@@ -69,12 +70,12 @@ from_in_view g s (Next at line (Pardo indices wheres body) rest) =
     (OfTouch (InView (view_of s)))
     (iteration_ran g (view_of s) (depth_left rest) wheres body own)
     (λ t. tt)
-    (each_iteration g (view_of s) (OfTouch (InView (view_of s))) (λ p l. refl) (λ p h l w. refl) (λ q m. tt) (depth_left rest) wheres body own))
+    (each_iteration g (view_of s) (OfTouch (InView (view_of s))) (λ p l. refl) (λ q m. tt) (λ p h l w. refl) (depth_left rest) wheres body own))
 from_in_view g s (Next at line form rest) =
     each_passed
     (OfTouch (InView (view_of s)))
     (statement_ran g (view_of s) line form s.own)
-    (each_statement g (view_of s) (OfTouch (InView (view_of s))) (λ p l. refl) (λ p h l w. refl) (λ q m. tt) line form s.own)
+    (each_statement g (view_of s) (OfTouch (InView (view_of s))) (λ p l. refl) (λ q m. tt) (λ p h l w. refl) line form s.own)
 from_in_view g s (Over at) = tt
 from_in_view g s (Turn loop last rest) = tt
 from_in_view g s (Join at rest) = tt
@@ -125,6 +126,7 @@ before_up_to g set (suc t) =
     later up (Writes touch words) e = let more = up touch in omega (arith, e, more)
     later up (Adds s n) e = tt
     later up (Traps trap) e = tt
+
     now : ((touch : Touch) → epoch_at g t touch.class ≤ epoch_at g (suc t) touch.class) → (d : Deed) → OfTouch (InView (view_of (state_at g t))) d → OfTouch (UpTo g (suc t)) d
     now up (Reads touch) e = let more = up touch in omega (arith, e, more)
     now up (Writes touch words) e = let more = up touch in omega (arith, e, more)
@@ -133,11 +135,11 @@ before_up_to g set (suc t) =
 
 module _ (class : Class) (epoch : ℕ) where
   -- an access is to this class in this epoch
-  abbrev is_here : Touch → Bool
+  abbrev pub is_here : Touch → Bool
   is_here touch = same_class touch.class class && (eqb touch.epoch epoch)
 
   -- the writes of some deeds and others
-  in_append : (a b : List Deed) → writes_in class epoch (a ++ b) ≡ writes_in class epoch a ++ writes_in class epoch b
+  pub in_append : (a b : List Deed) → writes_in class epoch (a ++ b) ≡ writes_in class epoch a ++ writes_in class epoch b
   in_append [] b = refl
   in_append (Reads t ∷ ds) b = in_append ds b
   in_append (Adds s n ∷ ds) b = in_append ds b
@@ -161,19 +163,13 @@ module _ (class : Class) (epoch : ℕ) where
 write_apart : (t : Touch) (words : List ℕ) (shared : Shared) (class : Class) → same_class t.class class ≡ false → blocks_of_class (write_to t words shared) class ≡ blocks_of_class shared class
 write_apart t words shared class e = class_other shared t.class class _ e
 
--- a class is that class
-class_is : (a b : Class) → same_class a b ≡ true → a ≡ b
-class_is Distributed Distributed e = refl
-class_is Distributed Served e = absurd cc
-class_is Served Distributed e = absurd cc
-class_is Served Served e = refl
-
 -- a write to a class depends on the blocks of that class alone
 write_alike : (t : Touch) (words : List ℕ) (a b : Shared) (class : Class) → same_class t.class class ≡ true → blocks_of_class a class ≡ blocks_of_class b class → blocks_of_class (write_to t words a) class ≡ blocks_of_class (write_to t words b) class
 write_alike t words a b class e same = by_class t.class class e same
   where
     set_block : List (List ℕ) → List (List ℕ)
     set_block blocks = set blocks t.block (accessed_words t.kind (get_or blocks t.block []) words)
+
     by_class : (c d : Class) → same_class c d ≡ true → blocks_of_class a d ≡ blocks_of_class b d
         → blocks_of_class (with_class a c (set_block (blocks_of_class a c))) d ≡ blocks_of_class (with_class b c (set_block (blocks_of_class b c))) d
     by_class Distributed Distributed e same = ap set_block same
@@ -193,7 +189,7 @@ in_alike class v (Writes t words ∷ ds) a b e same = by_class (same_class t.cla
         → ((a b : Shared) → Each (OfTouch (InView v)) ds → blocks_of_class a class ≡ blocks_of_class b class → blocks_of_class (written (writes_in class (epoch_of v.epochs class) ds) a) class ≡ blocks_of_class (written ds b) class)
         → blocks_of_class (written (if same_class t.class class && (eqb t.epoch (epoch_of v.epochs class)) then Writes t words ∷ writes_in class (epoch_of v.epochs class) ds else writes_in class (epoch_of v.epochs class) ds) a) class ≡ blocks_of_class (written ds (write_to t words b)) class
     by_class true is more =
-        let here : eqb t.epoch (epoch_of v.epochs class) ≡ true = eq-eqb t.epoch (epoch_of v.epochs class) (e.0 ∙ ap (epoch_of v.epochs) (class_is t.class class is)) in
+        let here : eqb t.epoch (epoch_of v.epochs class) ≡ true = eq-eqb t.epoch (epoch_of v.epochs class) (e.0 ∙ ap (epoch_of v.epochs) (class-is t.class class is)) in
         ap (λ x. blocks_of_class (written (if x && (eqb t.epoch (epoch_of v.epochs class)) then Writes t words ∷ writes_in class (epoch_of v.epochs class) ds else writes_in class (epoch_of v.epochs class) ds) a) class) is
         ∙ (ap (λ x. blocks_of_class (written (if x then Writes t words ∷ writes_in class (epoch_of v.epochs class) ds else writes_in class (epoch_of v.epochs class) ds) a) class) here
         ∙ more (write_to t words a) (write_to t words b) e.1 (write_alike t words a b class is same))
@@ -228,8 +224,37 @@ not_next : (class : Class) (e : Class → ℕ) (touch : Touch) → touch.epoch �
 not_next class e touch low = by_test (same_class touch.class class) refl
   where
     by_test : (x : Bool) → same_class touch.class class ≡ x → (x && (eqb touch.epoch (e class + 1))) ≡ false
-    by_test true is = let same : e touch.class ≡ e class = ap e (class_is touch.class class is) in unequal touch.epoch (e class + 1) (λ equal. absurd (omega (arith, low, same, equal)))
+    by_test true is = let same : e touch.class ≡ e class = ap e (class-is touch.class class is) in unequal touch.epoch (e class + 1) (λ equal. absurd (omega (arith, low, same, equal)))
     by_test false is = refl
+
+-- no write before a point or in its step is in the next epoch
+pub none_yet : (g : Setting) (set : IsGrantedSetting g) (class : Class) (t : ℕ) → writes_in class (epoch_at g t class + 1) (deeds_before g t ++ deeds_at g t) ≡ []
+none_yet g set class t =
+    in_none
+    class
+    (epoch_at g t class + 1)
+    (deeds_before g t ++ deeds_at g t)
+    (each_append
+    (OfTouch Later)
+    (deeds_before g t)
+    (deeds_at g t)
+    (each_with (OfTouch (UpTo g t)) (OfTouch Later) (deeds_before g t) past (before_up_to g set t))
+    (each_with (OfTouch (InView (view_of (state_at g t)))) (OfTouch Later) (deeds_at g t) now (from_in_view g (state_at g t) (course g t).work.rest)))
+  where
+    Later : Touch → Type 0
+    Later touch = is_here class (epoch_at g t class + 1) touch ≡ false
+
+    past : (d : Deed) → OfTouch (UpTo g t) d → OfTouch Later d
+    past (Reads touch) low = not_next class (epoch_at g t) touch low
+    past (Writes touch words) low = not_next class (epoch_at g t) touch low
+    past (Adds s n) low = tt
+    past (Traps trap) low = tt
+
+    now : (d : Deed) → OfTouch (InView (view_of (state_at g t))) d → OfTouch Later d
+    now (Reads touch) at = not_next class (epoch_at g t) touch (omega (arith, at))
+    now (Writes touch words) at = not_next class (epoch_at g t) touch (omega (arith, at))
+    now (Adds s n) at = tt
+    now (Traps trap) at = tt
 
 module _ (g : Setting) (set : IsGrantedSetting g) (class : Class) where
   -- the blocks by the deeds before a point, from these copies, in this epoch
@@ -264,33 +289,12 @@ module _ (g : Setting) (set : IsGrantedSetting g) (class : Class) where
       by_move (stays e c b) before = made_more t (epoch_at g (suc t) class) (state_at g (suc t)).copies (state_at g (suc t)).shared (ap (λ e. epoch_of e class) e) c b before
       by_move (ends other p none e c b) before = by_test (same_class other class) refl
         where
-          past : (d : Deed) → OfTouch (UpTo g t) d → OfTouch (λ touch. is_here class (epoch_at g t class + 1) touch ≡ false) d
-          past (Reads touch) low = not_next class (epoch_at g t) touch low
-          past (Writes touch words) low = not_next class (epoch_at g t) touch low
-          past (Adds s n) low = tt
-          past (Traps trap) low = tt
-          now : (d : Deed) → OfTouch (InView (view_of (state_at g t))) d → OfTouch (λ touch. is_here class (epoch_at g t class + 1) touch ≡ false) d
-          now (Reads touch) at = not_next class (epoch_at g t) touch (omega (arith, at))
-          now (Writes touch words) at = not_next class (epoch_at g t) touch (omega (arith, at))
-          now (Adds s n) at = tt
-          now (Traps trap) at = tt
           by_test : (x : Bool) → same_class other class ≡ x → blocks_at g (suc t) class ≡ made (epoch_at g (suc t) class) (deeds_before g t ++ deeds_at g t) (state_at g (suc t)).copies
           by_test true is =
               let later : epoch_at g (suc t) class ≡ epoch_at g t class + 1 = ap (λ e. epoch_of e class) e ∙ next_here (state_at g t).epochs other class is in
-              let nothing : writes_in class (epoch_at g t class + 1) (deeds_before g t ++ deeds_at g t) ≡ [] =
-              in_none
-              class
-              (epoch_at g t class + 1)
-              (deeds_before g t ++ deeds_at g t)
-              (each_append
-              (OfTouch (λ touch. is_here class (epoch_at g t class + 1) touch ≡ false))
-              (deeds_before g t)
-              (deeds_at g t)
-              (each_with (OfTouch (UpTo g t)) (OfTouch (λ touch. is_here class (epoch_at g t class + 1) touch ≡ false)) (deeds_before g t) past (before_up_to g set t))
-              (each_with (OfTouch (InView (view_of (state_at g t)))) (OfTouch (λ touch. is_here class (epoch_at g t class + 1) touch ≡ false)) (deeds_at g t) now (from_in_view g (state_at g t) (course g t).work.rest))) in
               sym
               (ap (λ n. made n (deeds_before g t ++ deeds_at g t) (state_at g (suc t)).copies) later
-              ∙ (ap (λ ds. blocks_of_class (written ds (state_at g (suc t)).copies) class) nothing
+              ∙ (ap (λ ds. blocks_of_class (written ds (state_at g (suc t)).copies) class) (none_yet g set class t)
               ∙ (ap (λ x. blocks_of_class x class) c ∙ class_here (state_at g t).copies other class (state_at g (suc t)).shared is)))
           by_test false is =
               let same : epoch_at g (suc t) class ≡ epoch_at g t class = ap (λ e. epoch_of e class) e ∙ next_other (state_at g t).epochs other class is in

@@ -221,8 +221,10 @@ counted_or_stays g p r e c = subst (λ (q : Point). StaysOrCounts g q (next_poin
   where
     at_rest : Rest → Point
     at_rest r = record { work = record { rest = r; state = p.work.state }; traps = p.traps }
+
     point_is : p.work.rest ≡ r → p ≡ at_rest r
     point_is e = ap (λ (x : Rest). record { work = record { rest = x; state = p.work.state }; traps = p.traps }) e
+
     by_rest : (r : Rest) → IsCounted g (next_of r) → StaysOrCounts g (record { work = record { rest = r; state = p.work.state }; traps = p.traps }) (next_point g (record { work = record { rest = r; state = p.work.state }; traps = p.traps }))
     by_rest (Over at) c = absurd c
     by_rest (Next at line (Do index body) rest) c = absurd c

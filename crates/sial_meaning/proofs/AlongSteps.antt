@@ -17,7 +17,7 @@ use Rattle.sial_meaning.specs.Next.{next_of, Asks, Local, Operands, Sync, Collec
 use Rattle.sial_meaning.specs.Next as next
 use Rattle.sial_meaning.specs.Own.{Own}
 use Rattle.sial_meaning.specs.Passed.{Passed, with_asked, if_moved, passed}
-use Rattle.sial_meaning.specs.Ran.{view_of, Ran, Held, Broke, touch_of, reads_done, no_partials, additions, local_ran, put_ran, effect_ran, unless_broken, statement_ran}
+use Rattle.sial_meaning.specs.Ran.{view_of, Ran, Through, Broke, touch_of, reads_done, no_partials, additions, local_ran, put_ran, effect_ran, unless_broken, statement_ran}
 use Rattle.sial_meaning.specs.Rest.{Rest, Over, Next, Turn, Join, Back, Within}
 use Rattle.sial_meaning.specs.Setting.{Setting}
 use Rattle.sial_meaning.specs.Sound.{IsGrantedSetting}
@@ -127,7 +127,7 @@ led_moves P p (Halts trap) = stays refl refl refl
 -- where it goes on by a statement
 done_moves : (P : Type 0) (p : Point) (o : Outcome) (x : Ran) (rest : Rest) → LogsLike p.work.state.log o x → MovesLike P p.work.state o x → Moves P (deeds_if_passed x) p.work.state (stepped p (done o rest)).work.state
 done_moves P p (Went t) x rest a h = h
-done_moves P p (Stopped trap t) (Held ds own) rest a h = absurd a
+done_moves P p (Stopped trap t) (Through ds own) rest a h = absurd a
 done_moves P p (Stopped trap t) (Broke ds other own) rest a h = stays refl refl refl
 
 -- a statement that ends an epoch and is passed passes a sync point

@@ -17,7 +17,7 @@ use Rattle.sial_meaning.specs.Control.{begun, pardo_at}
 use Rattle.sial_meaning.specs.Course.{Left, noted, iterations, stepped, next_from, course}
 use Rattle.sial_meaning.specs.Meaning.{block_meaning, calls, call_depth, iteration, unless_left_out, all_met, taken_up, left}
 use Rattle.sial_meaning.specs.Own.{Own, unset}
-use Rattle.sial_meaning.specs.Ran.{view_of, Ran, Held, Broke, outcome_in, iteration_ran}
+use Rattle.sial_meaning.specs.Ran.{view_of, Ran, Through, Broke, outcome_in, iteration_ran}
 use Rattle.sial_meaning.specs.Rest.{PardoAt, Rest, Next, Within, push, depth}
 use Rattle.sial_meaning.specs.Setting.{Setting}
 use Rattle.sial_meaning.specs.Sound.{IsSound}
@@ -54,17 +54,17 @@ done-whole g (Went s) rest good = good.whole
 done-whole g (Stopped trap s) rest good = good
 
 -- the state that an outcome leaves when it is noted
-noted-state : (ts : List Trap) (o : Outcome) → (noted ts o).state ≡ state_of o
+pub noted-state : (ts : List Trap) (o : Outcome) → (noted ts o).state ≡ state_of o
 noted-state ts (Went s) = refl
 noted-state ts (Stopped trap s) = refl
 
 -- the created flags of an outcome
 outcome-flags : (flags : List Bool) (s : State) (x : Ran) → HasFlags flags x → (state_of (outcome_in s x)).own.created ≡ flags
-outcome-flags flags s (Held ds own) e = e
+outcome-flags flags s (Through ds own) e = e
 outcome-flags flags s (Broke ds trap own) e = e
 
 -- numbers from one on, so many
-numbers-below : (first n k : ℕ) → Among k (numbers_from first n) → k < first + n
+pub numbers-below : (first n k : ℕ) → Among k (numbers_from first n) → k < first + n
 numbers-below first zero k a = absurd a
 numbers-below first (suc n) k (inl is) = omega (arith, is)
 numbers-below first (suc n) k (inr a) = let more = numbers-below (first + 1) n k a in omega (arith, more)
@@ -199,7 +199,7 @@ next-point-good g sound (Next at line form rest) s ts f work = stepped-good g (N
 next-point-good g sound r s ts f work = stepped-good g r s ts (step_from Copied g r s) work (step-good Copied g sound r s work)
 
 -- each point's work is good
-course-good : (g : Setting) (sound : IsSound g) (t : ℕ) → GoodWork g (course g t).work.rest (course g t).work.state
+pub course-good : (g : Setting) (sound : IsSound g) (t : ℕ) → GoodWork g (course g t).work.rest (course g t).work.state
 course-good g sound zero = steps-lead Copied g zero sound
 course-good g sound (suc t) = next-point-good g sound (course g t).work.rest (course g t).work.state (course g t).traps (course_fit g sound.setting t) (course-good g sound t)
 

@@ -14,7 +14,7 @@ use Rattle.sial_meaning.specs.DeedLaws.{IterationsAreTheirDeeds, PardosAreTheirD
 use Rattle.sial_meaning.specs.Deeds.{Deed, Traps, touches, traps, written, added, applied}
 use Rattle.sial_meaning.specs.Meaning.{block_meaning, calls, call_depth, iteration, all_met, on_own, taken_up}
 use Rattle.sial_meaning.specs.Own.{Own, unset}
-use Rattle.sial_meaning.specs.Ran.{View, view_of, Ran, Held, Broke, deeds_of, outcome_in, iteration_ran}
+use Rattle.sial_meaning.specs.Ran.{View, view_of, Ran, Through, Broke, deeds_of, outcome_in, iteration_ran}
 use Rattle.sial_meaning.specs.Rest.{Rest, Next, depth}
 use Rattle.sial_meaning.specs.Setting.{Setting}
 use Rattle.sial_meaning.specs.Sound.{IsGrantedSetting}
@@ -37,7 +37,7 @@ iterations_are_deeds g set t these wheres body b d tuple s e =
 
 -- what the worker held at the end
 abbrev pub own_after : Ran → Own
-own_after (Held before own) = own
+own_after (Through before own) = own
 own_after (Broke before trap own) = own
 
 -- a trap alone changes nothing
@@ -46,7 +46,7 @@ trap_applied trap s = applied_none s
 
 -- an outcome that is noted
 noted_is : (ts : List Trap) (s : State) (x : Ran) → Clear x → noted ts (outcome_in s x) ≡ record { state = record (applied (deeds_of x) s) { own = own_after x }; traps = ts ++ traps (deeds_of x) }
-noted_is ts s (Held before own) clear =
+noted_is ts s (Through before own) clear =
     ap (λ (more : List Trap). record { state = record (applied before s) { own = own }; traps = more }) (sym (ap (λ more. ts ++ more) clear ∙ append-nil ts))
 noted_is ts s (Broke before trap own) clear =
     ap
@@ -68,13 +68,13 @@ left_then : (a b : List Deed) (x y z : Left) → LeftBy a x y → LeftBy b y z �
 left_then a b x y z l m = record {
   log =
       m.log
-          ∙ (ap (λ log. log ++ touches b) l.log
-          ∙ (append_assoc x.state.log (touches a) (touches b) ∙ ap (λ more. x.state.log ++ more) (sym (touches_append a b))));
+      ∙ (ap (λ log. log ++ touches b) l.log
+      ∙ (append_assoc x.state.log (touches a) (touches b) ∙ ap (λ more. x.state.log ++ more) (sym (touches_append a b))));
   shared = m.shared ∙ (ap (written b) l.shared ∙ sym (written_append a b x.state.shared));
   partials = m.partials ∙ (ap (added b) l.partials ∙ sym (added_append a b x.state.partials));
   traps_are =
       m.traps_are
-          ∙ (ap (λ more. more ++ traps b) l.traps_are ∙ (append_assoc x.traps (traps a) (traps b) ∙ ap (λ more. x.traps ++ more) (sym (traps_append a b))));
+      ∙ (ap (λ more. more ++ traps b) l.traps_are ∙ (append_assoc x.traps (traps a) (traps b) ∙ ap (λ more. x.traps ++ more) (sym (traps_append a b))));
 }
 
 module _ (g : Setting) (set : IsGrantedSetting g) (d : ℕ) (indices these : List ℕ) (wheres : List Cond) (body : Block) (stands : PardoStands g set d indices these body) (enough : d ≤ call_depth) where

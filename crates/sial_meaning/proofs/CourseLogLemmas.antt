@@ -19,7 +19,7 @@ use Rattle.sial_meaning.specs.DeedLaws.{CoursesAreTheirDeeds}
 use Rattle.sial_meaning.specs.Deeds.{Deed, touches, traps}
 use Rattle.sial_meaning.specs.LocalStep.{Done, Answer, and_then, or_trap, quiet, scalar_assigned, scalar_value, scalar_line, to_scalar, to_target, needs_old, with_words, old_words, words_of, matched, is_allocated, integrals, side_read, all_allocated, all_deallocated, local_step}
 use Rattle.sial_meaning.specs.Own.{Own, sight, scalar_of}
-use Rattle.sial_meaning.specs.Ran.{view_of, Ran, Held, Broke, touch_of, reads_done, no_partials, additions, local_ran, put_ran, effect_ran, unless_broken, statement_ran}
+use Rattle.sial_meaning.specs.Ran.{view_of, Ran, Through, Broke, touch_of, reads_done, no_partials, additions, local_ran, put_ran, effect_ran, unless_broken, statement_ran}
 use Rattle.sial_meaning.specs.Rest.{Rest, Over, Next, Turn, Join, Back, Within}
 use Rattle.sial_meaning.specs.Right.{Side, assigned, is_insertion}
 use Rattle.sial_meaning.specs.Setting.{Setting, array_kind, scalar_class}
@@ -117,9 +117,9 @@ both_step g form values own ps qs = tt
 
 -- the log of an outcome, beside the deeds of the same statement
 abbrev pub LogsLike : List Touch → Outcome → Ran → Type 0
-LogsLike log (Went t) (Held ds own) = t.log ≡ log ++ touches ds
+LogsLike log (Went t) (Through ds own) = t.log ≡ log ++ touches ds
 LogsLike log (Went t) (Broke ds trap own) = ⊥
-LogsLike log (Stopped trap t) (Held ds own) = ⊥
+LogsLike log (Stopped trap t) (Through ds own) = ⊥
 LogsLike log (Stopped trap t) (Broke ds other own) = Unit {0}
 
 -- a local statement
@@ -186,9 +186,9 @@ stays_logs p = record { log = sym (append-nil p.work.state.log); noted_are = sym
 
 -- a statement that is passed or not
 done_logs : (p : Point) (o : Outcome) (x : Ran) (rest : Rest) → Clear x → LogsLike p.work.state.log o x → LogsBy (deeds_if_passed x) p (stepped p (done o rest))
-done_logs p (Went t) (Held ds own) rest clear h = record { log = h; noted_are = sym (ap (λ more. p.traps ++ more) clear ∙ append-nil p.traps) }
+done_logs p (Went t) (Through ds own) rest clear h = record { log = h; noted_are = sym (ap (λ more. p.traps ++ more) clear ∙ append-nil p.traps) }
 done_logs p (Went t) (Broke ds trap own) rest clear h = absurd h
-done_logs p (Stopped trap t) (Held ds own) rest clear h = absurd h
+done_logs p (Stopped trap t) (Through ds own) rest clear h = absurd h
 done_logs p (Stopped trap t) (Broke ds other own) rest clear h = stays_logs p
 
 -- the step from any point

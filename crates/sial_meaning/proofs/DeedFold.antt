@@ -7,7 +7,7 @@ use Rattle.sial_syntax.specs.Tree.{Block, End, Then, Plain, Do, DoIn, Pardo, If,
 use Rattle.sial_syntax.specs.Visits.{Visit, visits, inner_visits}
 use Rattle.sial_meaning.specs.Meaning.{block_meaning, form_meaning, calls, condition, over, on_own, iteration, all_met, segments_over, pieces_over}
 use Rattle.sial_meaning.specs.Own.{Own, bound, none_bound, with_values}
-use Rattle.sial_meaning.specs.Ran.{View, view_of, Ran, Held, outcome_in, ran_over, block_ran, form_ran, calls_ran, iteration_ran}
+use Rattle.sial_meaning.specs.Ran.{View, view_of, Ran, Through, outcome_in, ran_over, block_ran, form_ran, calls_ran, iteration_ran}
 use Rattle.sial_meaning.specs.Setting.{Setting, procedure_body}
 use Rattle.sial_meaning.specs.Sound.{IsGrantedSetting}
 use Rattle.sial_meaning.specs.State.{State}
@@ -74,7 +74,7 @@ module _ (g : Setting) (call : ℕ → State → Outcome) (run : View → ℕ �
         (block_meaning Copied g call body)
         Went
         (λ v. block_ran g v (run v) body)
-        (λ v. Held [])
+        (λ v. Through [])
         (block_is indices within body calm)
         (λ t. held_here t t.own)
         s

@@ -5,7 +5,7 @@ use Rattle.sial_meaning.specs.Deeds.{Deed, Reads, Writes, Adds, Traps, touches, 
 use Rattle.sial_meaning.specs.LocalStep.{Answer}
 use Rattle.sial_meaning.specs.Meaning.{chosen, over, on_own, then_own, unless_left_out}
 use Rattle.sial_meaning.specs.Own.{Own}
-use Rattle.sial_meaning.specs.Ran.{View, view_of, Ran, Held, Broke, outcome_in, behind, and_so, ran_over, ran_then, ran_by, ran_unless_left_out}
+use Rattle.sial_meaning.specs.Ran.{View, view_of, Ran, Through, Broke, outcome_in, behind, and_so, ran_over, ran_then, ran_by, ran_unless_left_out}
 use Rattle.sial_meaning.specs.State.{Shared, State, with_own}
 use Rattle.sial_meaning.specs.Statement.{Outcome, Went, Stopped, after, trap_at}
 
@@ -71,16 +71,16 @@ applied_append a b s =
 
 -- an outcome doesn't depend on what the worker held in the state
 pub outcome_own : (s : State) (own : Own) (x : Ran) → outcome_in (with_own s own) x ≡ outcome_in s x
-outcome_own s own (Held ds o) = refl
+outcome_own s own (Through ds o) = refl
 outcome_own s own (Broke ds trap o) = refl
 
 -- an outcome behind other deeds
 pub outcome_behind : (ds : List Deed) (s : State) (x : Ran) → outcome_in (applied ds s) x ≡ outcome_in s (behind ds x)
-outcome_behind ds s (Held es o) = ap (λ (t : State). Went (record t { own = o })) (sym (applied_append ds es s))
+outcome_behind ds s (Through es o) = ap (λ (t : State). Went (record t { own = o })) (sym (applied_append ds es s))
 outcome_behind ds s (Broke es trap o) = ap (λ (t : State). Stopped trap (record t { own = o })) (sym (applied_append ds es s))
 
 -- a worker's part in a state without deeds
-pub held_here : (s : State) (own : Own) → Went (with_own s own) ≡ outcome_in s (Held [] own)
+pub held_here : (s : State) (own : Own) → Went (with_own s own) ≡ outcome_in s (Through [] own)
 held_here s own = ap (λ (t : State). Went (with_own t own)) (sym (applied_none s))
 
 -- meanings that are their deeds in each state
@@ -89,7 +89,7 @@ AreDeeds f run = (s : State) → f s ≡ outcome_in s (run (view_of s) s.own)
 
 -- one thing after another
 pub after_deeds : (s : State) (x : Ran) (f : State → Outcome) (next : View → Own → Ran) → AreDeeds f next → after (outcome_in s x) f ≡ outcome_in s (and_so x (next (view_of s)))
-after_deeds s (Held ds o) f next h =
+after_deeds s (Through ds o) f next h =
     h (with_own (applied ds s) o) ∙ (outcome_own (applied ds s) o (next (view_of s) o) ∙ outcome_behind ds s (next (view_of s) o))
 after_deeds s (Broke ds trap o) f next h = refl
 
@@ -104,7 +104,7 @@ over_deeds (x ∷ xs) turn run h s =
 pub then_deeds : (s : State) (o : Outcome) (x : Ran) (f : Own → Own) → o ≡ outcome_in s x → then_own o f ≡ outcome_in s (ran_then x f)
 then_deeds s o x f e =
     ap (λ p. then_own p f) e
-    ∙ after_deeds s x (λ t. Went (on_own f t)) (λ v own. Held [] (f own)) (λ t. held_here t (f t.own))
+    ∙ after_deeds s x (λ t. Went (on_own f t)) (λ v own. Through [] (f own)) (λ t. held_here t (f t.own))
 
 -- one of two ways
 pub chosen_deeds : (line : ℕ) (answer : Answer Bool) (met unmet : State → Outcome) (run other : View → Own → Ran) → AreDeeds met run → AreDeeds unmet other → (s : State) → chosen line answer met unmet s ≡ outcome_in s (ran_by line answer (run (view_of s)) (other (view_of s)) s.own)

@@ -14,7 +14,7 @@ use Rattle.sial_meaning.specs.Deeds.{Deed, Reads, Writes, Adds, Traps, traps}
 use Rattle.sial_meaning.specs.LocalStep.{Done, Answer, words_of, local_step}
 use Rattle.sial_meaning.specs.Meaning.{condition, all_met, segments_over, pieces_over}
 use Rattle.sial_meaning.specs.Own.{Own, bound, none_bound, with_values}
-use Rattle.sial_meaning.specs.Ran.{View, Ran, Held, Broke, behind, and_so, ran_over, ran_by, touch_of, reads_done, values_seen, no_partials, added_to, additions, local_ran, put_ran, effect_ran, unless_broken, statement_ran, block_ran, form_ran, calls_ran, ran_unless_left_out, iteration_ran}
+use Rattle.sial_meaning.specs.Ran.{View, Ran, Through, Broke, behind, and_so, ran_over, ran_by, touch_of, reads_done, values_seen, no_partials, added_to, additions, local_ran, put_ran, effect_ran, unless_broken, statement_ran, block_ran, form_ran, calls_ran, ran_unless_left_out, iteration_ran}
 use Rattle.sial_meaning.specs.Setting.{Setting, procedure_body, scalar_class}
 use Rattle.sial_meaning.specs.Statement.{Named, named, reads_of, created_trap}
 
@@ -30,18 +30,18 @@ each_append P (d ∷ ds) b e f = (e.0, each_append P ds b e.1 f)
 
 -- of each deed before the end
 abbrev pub EachBefore : (Deed → Type 0) → Ran → Type 0
-EachBefore P (Held before own) = Each P before
+EachBefore P (Through before own) = Each P before
 EachBefore P (Broke before trap own) = Each P before
 
-module _ (g : Setting) (v : View) (P : Deed → Type 0) (reads : (place : Named) (line : ℕ) → P (Reads (touch_of v place Read line))) (writes : (place : Named) (how : Access) (line : ℕ) (words : List ℕ) → P (Writes (touch_of v place how line) words)) (adds : (scalar n : ℕ) → P (Adds scalar n)) where
+module _ (g : Setting) (v : View) (P : Deed → Type 0) (reads : (place : Named) (line : ℕ) → P (Reads (touch_of v place Read line))) (adds : (scalar n : ℕ) → P (Adds scalar n)) where
   -- what was done behind other deeds
-  each_behind : (first : List Deed) (x : Ran) → Each P first → EachBefore P x → EachBefore P (behind first x)
-  each_behind first (Held before own) e f = each_append P first before e f
+  pub each_behind : (first : List Deed) (x : Ran) → Each P first → EachBefore P x → EachBefore P (behind first x)
+  each_behind first (Through before own) e f = each_append P first before e f
   each_behind first (Broke before trap own) e f = each_append P first before e f
 
   -- one thing after another
   each_then : (x : Ran) (next : Own → Ran) → EachBefore P x → ((own : Own) → EachBefore P (next own)) → EachBefore P (and_so x next)
-  each_then (Held before own) next e h = each_behind before (next own) e (h own)
+  each_then (Through before own) next e h = each_behind before (next own) e (h own)
   each_then (Broke before trap own) next e h = e
 
   -- one thing after another for each number
@@ -56,7 +56,7 @@ module _ (g : Setting) (v : View) (P : Deed → Type 0) (reads : (place : Named)
   each_by line (Err kind) met unmet own a b = tt
 
   -- reads
-  each_read : (line : ℕ) (own : Own) (blocks : List BlockRef) → Each P (reads_done g v line own blocks)
+  pub each_read : (line : ℕ) (own : Own) (blocks : List BlockRef) → Each P (reads_done g v line own blocks)
   each_read line own [] = tt
   each_read line own (b ∷ bs) = (reads (named g own b) line, each_read line own bs)
 
@@ -73,89 +73,90 @@ module _ (g : Setting) (v : View) (P : Deed → Type 0) (reads : (place : Named)
   each_addition form partials = tt
 
   -- a local statement
-  each_local : (line : ℕ) (form : Plain) (before : List Deed) (own : Own) (answer : Answer Done) → Each P before → EachBefore P (local_ran g line form before own answer)
+  pub each_local : (line : ℕ) (form : Plain) (before : List Deed) (own : Own) (answer : Answer Done) → Each P before → EachBefore P (local_ran g line form before own answer)
   each_local line form before own (Ok done) e = each_append P before (additions g form done.partials) e (each_addition form done.partials)
   each_local line form before own (Err kind) e = e
 
-  -- a write
-  each_put : (line : ℕ) (place : Named) (how : Access) (own : Own) (answer : Answer (List ℕ)) → EachBefore P (put_ran line (touch_of v place how line) own answer)
-  each_put line place how own (Ok words) = (writes place how line words, tt)
-  each_put line place how own (Err kind) = tt
+  module _ (writes : (place : Named) (how : Access) (line : ℕ) (words : List ℕ) → P (Writes (touch_of v place how line) words)) where
+    -- a write
+    each_put : (line : ℕ) (place : Named) (how : Access) (own : Own) (answer : Answer (List ℕ)) → EachBefore P (put_ran line (touch_of v place how line) own answer)
+    each_put line place how own (Ok words) = (writes place how line words, tt)
+    each_put line place how own (Err kind) = tt
 
-  -- the effect of a statement
-  each_effect : (line : ℕ) (form : Plain) (own : Own) → EachBefore P (effect_ran g v line form own)
-  each_effect line (Get block) own = each_read line own (block ∷ [])
-  each_effect line (Request block) own = each_read line own (block ∷ [])
-  each_effect line (Put block how from) own = each_put line (named g own block) how own (words_of g own from [])
-  each_effect line (Prepare block how from) own = each_put line (named g own block) how own (words_of g own from [])
-  each_effect line form own =
-      each_local
-      line
-      form
-      (reads_done g v line own (reads_of g form))
-      own
-      (local_step g form (values_seen g v own (reads_of g form)) own (no_partials g))
-      (each_read line own (reads_of g form))
+    -- the effect of a statement
+    each_effect : (line : ℕ) (form : Plain) (own : Own) → EachBefore P (effect_ran g v line form own)
+    each_effect line (Get block) own = each_read line own (block ∷ [])
+    each_effect line (Request block) own = each_read line own (block ∷ [])
+    each_effect line (Put block how from) own = each_put line (named g own block) how own (words_of g own from [])
+    each_effect line (Prepare block how from) own = each_put line (named g own block) how own (words_of g own from [])
+    each_effect line form own =
+        each_local
+        line
+        form
+        (reads_done g v line own (reads_of g form))
+        own
+        (local_step g form (values_seen g v own (reads_of g form)) own (no_partials g))
+        (each_read line own (reads_of g form))
 
-  -- a statement, unless its created flags trap
-  each_unless : (line : ℕ) (own : Own) (trap : Option TrapKind) (next : Own → Ran) → EachBefore P (next own) → EachBefore P (unless_broken line own trap next)
-  each_unless line own None next e = e
-  each_unless line own (Some kind) next e = tt
+    -- a statement, unless its created flags trap
+    each_unless : (line : ℕ) (own : Own) (trap : Option TrapKind) (next : Own → Ran) → EachBefore P (next own) → EachBefore P (unless_broken line own trap next)
+    each_unless line own None next e = e
+    each_unless line own (Some kind) next e = tt
 
-  -- a statement
-  pub each_statement : (line : ℕ) (form : Plain) (own : Own) → EachBefore P (statement_ran g v line form own)
-  each_statement line form own = each_unless line own (created_trap g form own) (effect_ran g v line form) (each_effect line form own)
+    -- a statement
+    pub each_statement : (line : ℕ) (form : Plain) (own : Own) → EachBefore P (statement_ran g v line form own)
+    each_statement line form own = each_unless line own (created_trap g form own) (effect_ran g v line form) (each_effect line form own)
 
-  module _ (call : ℕ → Own → Ran) (calls_each : (q : ℕ) (own : Own) → EachBefore P (call q own)) where
-    mutual
-      -- statements
-      each_block : (body : Block) (own : Own) → EachBefore P (block_ran g v call body own)
-      each_block End own = tt
-      each_block (Then line form rest) own = each_then (form_ran g v call line form own) (block_ran g v call rest) (each_form line form own) (each_block rest)
+    module _ (call : ℕ → Own → Ran) (calls_each : (q : ℕ) (own : Own) → EachBefore P (call q own)) where
+      mutual
+        -- statements
+        each_block : (body : Block) (own : Own) → EachBefore P (block_ran g v call body own)
+        each_block End own = tt
+        each_block (Then line form rest) own = each_then (form_ran g v call line form own) (block_ran g v call rest) (each_form line form own) (each_block rest)
 
-      -- each of them
-      each_form : (line : ℕ) (form : Plain) (own : Own) → EachBefore P (form_ran g v call line form own)
-      each_form line (Do index body) own =
-          each_then
-          (ran_over (segments_over g index) (λ k o. block_ran g v call body (bound index k o)) own)
-          (λ o. Held [] (bound index 0 o))
-          (each_over (segments_over g index) (λ k o. block_ran g v call body (bound index k o)) (λ k o. each_block body (bound index k o)) own)
-          (λ o. tt)
-      each_form line (DoIn sub index body) own =
-          each_then
-          (ran_over (pieces_over g own sub index) (λ k o. block_ran g v call body (bound sub k o)) own)
-          (λ o. Held [] (bound sub 0 o))
-          (each_over (pieces_over g own sub index) (λ k o. block_ran g v call body (bound sub k o)) (λ k o. each_block body (bound sub k o)) own)
-          (λ o. tt)
-      each_form line (Pardo indices wheres body) own = tt
-      each_form line (If test body) own = each_by line (condition own test) (block_ran g v call body) (Held []) own (each_block body own) tt
-      each_form line (IfElse test body other) own = each_by line (condition own test) (block_ran g v call body) (block_ran g v call other) own (each_block body own) (each_block other own)
-      each_form line (Call procedure) own = calls_each procedure own
-      each_form line form own = each_statement line form own
+        -- each of them
+        each_form : (line : ℕ) (form : Plain) (own : Own) → EachBefore P (form_ran g v call line form own)
+        each_form line (Do index body) own =
+            each_then
+            (ran_over (segments_over g index) (λ k o. block_ran g v call body (bound index k o)) own)
+            (λ o. Through [] (bound index 0 o))
+            (each_over (segments_over g index) (λ k o. block_ran g v call body (bound index k o)) (λ k o. each_block body (bound index k o)) own)
+            (λ o. tt)
+        each_form line (DoIn sub index body) own =
+            each_then
+            (ran_over (pieces_over g own sub index) (λ k o. block_ran g v call body (bound sub k o)) own)
+            (λ o. Through [] (bound sub 0 o))
+            (each_over (pieces_over g own sub index) (λ k o. block_ran g v call body (bound sub k o)) (λ k o. each_block body (bound sub k o)) own)
+            (λ o. tt)
+        each_form line (Pardo indices wheres body) own = tt
+        each_form line (If test body) own = each_by line (condition own test) (block_ran g v call body) (Through []) own (each_block body own) tt
+        each_form line (IfElse test body other) own = each_by line (condition own test) (block_ran g v call body) (block_ran g v call other) own (each_block body own) (each_block other own)
+        each_form line (Call procedure) own = calls_each procedure own
+        each_form line form own = each_statement line form own
 
-  -- procedures
-  each_call : (depth q : ℕ) (own : Own) → EachBefore P (calls_ran g v depth q own)
-  each_call zero q own = tt
-  each_call (suc depth) q own =
-      each_then
-      (block_ran g v (calls_ran g v depth) (procedure_body g q) (none_bound own))
-      (λ o. Held [] (with_values own.values o))
-      (each_block (calls_ran g v depth) (each_call depth) (procedure_body g q) (none_bound own))
-      (λ o. tt)
+    -- procedures
+    each_call : (depth q : ℕ) (own : Own) → EachBefore P (calls_ran g v depth q own)
+    each_call zero q own = tt
+    each_call (suc depth) q own =
+        each_then
+        (block_ran g v (calls_ran g v depth) (procedure_body g q) (none_bound own))
+        (λ o. Through [] (with_values own.values o))
+        (each_block (calls_ran g v depth) (each_call depth) (procedure_body g q) (none_bound own))
+        (λ o. tt)
 
-  -- a body that may be left out
-  each_left_out : (met : Bool) (body : Own → Ran) (own : Own) → EachBefore P (body own) → EachBefore P (ran_unless_left_out met body own)
-  each_left_out true body own e = e
-  each_left_out false body own e = tt
+    -- a body that may be left out
+    each_left_out : (met : Bool) (body : Own → Ran) (own : Own) → EachBefore P (body own) → EachBefore P (ran_unless_left_out met body own)
+    each_left_out true body own e = e
+    each_left_out false body own e = tt
 
-  -- iterations
-  pub each_iteration : (depth : ℕ) (wheres : List Cond) (body : Block) (own : Own) → EachBefore P (iteration_ran g v depth wheres body own)
-  each_iteration depth wheres body own =
-      each_left_out (all_met own wheres) (block_ran g v (calls_ran g v depth) body) own (each_block (calls_ran g v depth) (each_call depth) body own)
+    -- iterations
+    pub each_iteration : (depth : ℕ) (wheres : List Cond) (body : Block) (own : Own) → EachBefore P (iteration_ran g v depth wheres body own)
+    each_iteration depth wheres body own =
+        each_left_out (all_met own wheres) (block_ran g v (calls_ran g v depth) body) own (each_block (calls_ran g v depth) (each_call depth) body own)
 
 -- no trap is among the deeds before the end
 abbrev pub Clear : Ran → Type 0
-Clear (Held before own) = traps before ≡ []
+Clear (Through before own) = traps before ≡ []
 Clear (Broke before trap own) = traps before ≡ []
 
 -- whether a deed is no trap
@@ -172,14 +173,14 @@ none_traps (Traps t ∷ ds) e = absurd cc
 
 -- none before the end
 clear_by : (x : Ran) → EachBefore IsNoTrap x → Clear x
-clear_by (Held before own) e = none_traps before e
+clear_by (Through before own) e = none_traps before e
 clear_by (Broke before trap own) e = none_traps before e
 
 -- a statement
 pub clear_statement : (g : Setting) (v : View) (line : ℕ) (form : Plain) (own : Own) → Clear (statement_ran g v line form own)
-clear_statement g v line form own = clear_by (statement_ran g v line form own) (each_statement g v IsNoTrap (λ p l. refl) (λ p h l w. refl) (λ s n. refl) line form own)
+clear_statement g v line form own = clear_by (statement_ran g v line form own) (each_statement g v IsNoTrap (λ p l. refl) (λ s n. refl) (λ p h l w. refl) line form own)
 
 -- iterations
 pub clear_iteration : (g : Setting) (v : View) (depth : ℕ) (wheres : List Cond) (body : Block) (own : Own) → Clear (iteration_ran g v depth wheres body own)
 clear_iteration g v depth wheres body own =
-    clear_by (iteration_ran g v depth wheres body own) (each_iteration g v IsNoTrap (λ p l. refl) (λ p h l w. refl) (λ s n. refl) depth wheres body own)
+    clear_by (iteration_ran g v depth wheres body own) (each_iteration g v IsNoTrap (λ p l. refl) (λ s n. refl) (λ p h l w. refl) depth wheres body own)

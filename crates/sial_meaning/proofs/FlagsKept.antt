@@ -8,25 +8,25 @@ use Rattle.sial_meaning.specs.Deeds.{Deed}
 use Rattle.sial_meaning.specs.LocalStep.{Done, Answer, words_of, local_step}
 use Rattle.sial_meaning.specs.Meaning.{condition, all_met, segments_over, pieces_over}
 use Rattle.sial_meaning.specs.Own.{Own, bound, all_bound, none_bound, with_values}
-use Rattle.sial_meaning.specs.Ran.{View, Ran, Held, Broke, behind, and_so, ran_over, ran_by, touch_of, reads_done, values_seen, no_partials, local_ran, put_ran, effect_ran, unless_broken, statement_ran, block_ran, form_ran, calls_ran, ran_unless_left_out, iteration_ran}
+use Rattle.sial_meaning.specs.Ran.{View, Ran, Through, Broke, behind, and_so, ran_over, ran_by, touch_of, reads_done, values_seen, no_partials, local_ran, put_ran, effect_ran, unless_broken, statement_ran, block_ran, form_ran, calls_ran, ran_unless_left_out, iteration_ran}
 use Rattle.sial_meaning.specs.Setting.{Setting, procedure_body}
 use Rattle.sial_meaning.specs.Statement.{named, reads_of, created_trap}
 use Rattle.sial_meaning.proofs.RestLemmasKept.{Frame, frame_of, AnswersWith, step_answers}
 
 -- the flags are these
 abbrev pub HasFlags : List Bool → Ran → Type 0
-HasFlags flags (Held before own) = own.created ≡ flags
+HasFlags flags (Through before own) = own.created ≡ flags
 HasFlags flags (Broke before trap own) = own.created ≡ flags
 
 module _ (flags : List Bool) where
   -- what was done behind other deeds
   flags_behind : (first : List Deed) (x : Ran) → HasFlags flags x → HasFlags flags (behind first x)
-  flags_behind first (Held before own) e = e
+  flags_behind first (Through before own) e = e
   flags_behind first (Broke before trap own) e = e
 
   -- one thing after another
   flags_then : (x : Ran) (next : Own → Ran) → HasFlags flags x → ((own : Own) → own.created ≡ flags → HasFlags flags (next own)) → HasFlags flags (and_so x next)
-  flags_then (Held before own) next e h = flags_behind before (next own) (h own e)
+  flags_then (Through before own) next e h = flags_behind before (next own) (h own e)
   flags_then (Broke before trap own) next e h = e
 
   -- one thing after another for each number
@@ -89,17 +89,17 @@ module _ (flags : List Bool) where
         flags_form line (Do index body) own e =
             flags_then
             (ran_over (segments_over g index) (λ k o. block_ran g v call body (bound index k o)) own)
-            (λ o. Held [] (bound index 0 o))
+            (λ o. Through [] (bound index 0 o))
             (flags_over (segments_over g index) (λ k o. block_ran g v call body (bound index k o)) (λ k o f. flags_block body (bound index k o) f) own e)
             (λ o f. f)
         flags_form line (DoIn sub index body) own e =
             flags_then
             (ran_over (pieces_over g own sub index) (λ k o. block_ran g v call body (bound sub k o)) own)
-            (λ o. Held [] (bound sub 0 o))
+            (λ o. Through [] (bound sub 0 o))
             (flags_over (pieces_over g own sub index) (λ k o. block_ran g v call body (bound sub k o)) (λ k o f. flags_block body (bound sub k o) f) own e)
             (λ o f. f)
         flags_form line (Pardo indices wheres body) own e = e
-        flags_form line (If test body) own e = flags_by line (condition own test) (block_ran g v call body) (Held []) own e (flags_block body own e) e
+        flags_form line (If test body) own e = flags_by line (condition own test) (block_ran g v call body) (Through []) own e (flags_block body own e) e
         flags_form line (IfElse test body other) own e = flags_by line (condition own test) (block_ran g v call body) (block_ran g v call other) own e (flags_block body own e) (flags_block other own e)
         flags_form line (Call procedure) own e = calls_kept procedure own e
         flags_form line form own e = flags_statement line form own e
@@ -110,7 +110,7 @@ module _ (flags : List Bool) where
     flags_call (suc depth) q own e =
         flags_then
         (block_ran g v (calls_ran g v depth) (procedure_body g q) (none_bound own))
-        (λ o. Held [] (with_values own.values o))
+        (λ o. Through [] (with_values own.values o))
         (flags_block (calls_ran g v depth) (flags_call depth) (procedure_body g q) (none_bound own) e)
         (λ o f. f)
 

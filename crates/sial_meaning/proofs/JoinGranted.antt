@@ -1,7 +1,8 @@
 -- What sums, differences, products and scalings of a granted program read back.
-use Rattle.std.proofs.Common.{◌≡◌, ℕ, List, [], ◌∷◌, ◌++◌, filter, Bool, true, false, ◌||◌, not, if◌then◌else◌, ⊎_elim, inl, inr, refl, sym, ap, ◌∙◌}
+use Rattle.std.proofs.Common.{◌≡◌, ℕ, List, [], ◌∷◌, ◌++◌, filter, Bool, true, false, ◌||◌, not, if◌then◌else◌, ⊎_elim, inl, inr, refl, sym, ap, ◌∙◌, ◌&&◌}
 use Rattle.std.specs.List.{list_any}
 use Rattle.sial_syntax.proofs.AmongLemmas.{Among, among_left, among_right, among_either, among_filter, among_filter_from, among_from, contains_at, all_from, all_at}
+use Rattle.sial_syntax.specs.declared.operand.Bin.{Bin}
 use Rattle.sial_syntax.specs.declared.operand.Bin.TheVariants.{Plus, Minus, Times, Outer}
 use Rattle.sial_syntax.specs.declared.operand.BlockRef.{BlockRef}
 use Rattle.sial_syntax.specs.declared.operand.Op.{Op}
@@ -10,12 +11,13 @@ use Rattle.sial_syntax.specs.declared.operand.Operand.TheVariants as operand
 use Rattle.sial_syntax.specs.declared.operand.Right.{Right}
 use Rattle.sial_syntax.specs.declared.operand.Right.TheVariants.{Two}
 use Rattle.sial_syntax.specs.declared.operand.Target.TheVariants as target
-use Rattle.sial_syntax.specs.Agreeing.{contains, all_in, same_set, has_twice, in_one, share_any, is_block, block_agrees}
+use Rattle.sial_syntax.specs.Agreeing.{contains, all_in, same_set, has_twice, in_one, share_any, is_block, pair_agrees, block_agrees}
 use Rattle.sial_syntax.specs.Parts.{blocks_named}
 use Rattle.sial_syntax.specs.Shapes.{breaks_repeated, breaks_indices, wrong_rank, wrong_slot_rank, disagrees}
 use Rattle.sial_syntax.specs.Tree.{Tree, Assign}
 use Rattle.sial_syntax.specs.Visits.{all_visits}
-use Rattle.sial_meaning.specs.JoinLaws.{shared_indices, Assigns, SumsReadBack, DifferencesReadBack, OuterProductsReadBack, ContractionsReadBack, ScalingsReadBack}
+use Rattle.sial_meaning.specs.JoinLaws.{shared_indices, Assigns, JoinsByName, JoinsReadBack, SumsReadBack, DifferencesReadBack, OuterProductsReadBack, ContractionsReadBack, ScalingsReadBack}
+use Rattle.sial_meaning.specs.Number.{plus, minus, times}
 use Rattle.sial_meaning.proofs.GrantedLemmas.{fails-in, repeats}
 use Rattle.sial_meaning.proofs.JoinLemmas.{sums-by-name, differences-by-name, outer-products-by-name, scalings-by-name, contractions-by-name}
 use Rattle.sial_meaning.proofs.PairLemmas.{never, first-holds, second-holds, holds-so, not-so}
@@ -51,69 +53,31 @@ all-left xs ys zs all = all_from (contains zs) xs (λ i a. all_at (contains zs) 
 all-right : (xs ys zs : List ℕ) → all_in (xs ++ ys) zs ≡ true → all_in ys zs ≡ true
 all-right xs ys zs all = all_from (contains zs) ys (λ i a. all_at (contains zs) i (xs ++ ys) all (among_right i xs ys a))
 
--- sums
+-- two blocks joined element by element, where the rule on indices says that theirs stand in the target
+joins-read-back : (bin : Bin) (f : ℕ → ℕ → ℕ) → JoinsByName bin f → ((to a b : List ℕ) → pair_agrees to bin a b ≡ true → (all_in a to ≡ true) × (all_in b to ≡ true)) → JoinsReadBack bin f
+joins-read-back bin f by-name stand g to a b op values old left right tuple sound says are =
+    let hold = shapes-hold g.program sound.setting.granted in
+    let right-side : Right = Two (operand.Block a) bin (operand.Block b) in
+    let in-target = stand to.at a.at b.at (right-agrees g.program to op right-side hold says) in
+    by-name g.spaces op values to.at a.at b.at old left right tuple (target-once g.program to op right-side hold says) in-target.0 in-target.1 are
+
+-- the indices of two blocks that are both the target's
+both-targets : (to a b : List ℕ) → (same_set to a && same_set to b) ≡ true → (all_in a to ≡ true) × (all_in b to ≡ true)
+both-targets to a b agrees = (second-in to a (first-holds (same_set to a) (same_set to b) agrees), second-in to b (second-holds (same_set to a) (same_set to b) agrees))
+
+-- the indices of two blocks that are together the target's
+parts-of-target : (to a b : List ℕ) → (not (share_any a b) && same_set to (a ++ b)) ≡ true → (all_in a to ≡ true) × (all_in b to ≡ true)
+parts-of-target to a b agrees = let all = second-in to (a ++ b) (second-holds (not (share_any a b)) (same_set to (a ++ b)) agrees) in (all-left a b to all, all-right a b to all)
+
+-- sums, differences and outer products
 pub sums-read-back : SumsReadBack
-sums-read-back g to a b op values old left right tuple sound says are =
-    let hold = shapes-hold g.program sound.setting.granted in
-    let agrees = right-agrees g.program to op (Two (operand.Block a) Plus (operand.Block b)) hold says in
-    sums-by-name
-    g.spaces
-    op
-    values
-    to.at
-    a.at
-    b.at
-    old
-    left
-    right
-    tuple
-    (target-once g.program to op (Two (operand.Block a) Plus (operand.Block b)) hold says)
-    (second-in to.at a.at (first-holds (same_set to.at a.at) (same_set to.at b.at) agrees))
-    (second-in to.at b.at (second-holds (same_set to.at a.at) (same_set to.at b.at) agrees))
-    are
+sums-read-back = joins-read-back Plus plus sums-by-name both-targets
 
--- differences
 pub differences-read-back : DifferencesReadBack
-differences-read-back g to a b op values old left right tuple sound says are =
-    let hold = shapes-hold g.program sound.setting.granted in
-    let agrees = right-agrees g.program to op (Two (operand.Block a) Minus (operand.Block b)) hold says in
-    differences-by-name
-    g.spaces
-    op
-    values
-    to.at
-    a.at
-    b.at
-    old
-    left
-    right
-    tuple
-    (target-once g.program to op (Two (operand.Block a) Minus (operand.Block b)) hold says)
-    (second-in to.at a.at (first-holds (same_set to.at a.at) (same_set to.at b.at) agrees))
-    (second-in to.at b.at (second-holds (same_set to.at a.at) (same_set to.at b.at) agrees))
-    are
+differences-read-back = joins-read-back Minus minus differences-by-name both-targets
 
--- outer products
 pub outer-products-read-back : OuterProductsReadBack
-outer-products-read-back g to a b op values old left right tuple sound says are =
-    let hold = shapes-hold g.program sound.setting.granted in
-    let agrees = right-agrees g.program to op (Two (operand.Block a) Outer (operand.Block b)) hold says in
-    let all = second-in to.at (a.at ++ b.at) (second-holds (not (share_any a.at b.at)) (same_set to.at (a.at ++ b.at)) agrees) in
-    outer-products-by-name
-    g.spaces
-    op
-    values
-    to.at
-    a.at
-    b.at
-    old
-    left
-    right
-    tuple
-    (target-once g.program to op (Two (operand.Block a) Outer (operand.Block b)) hold says)
-    (all-left a.at b.at to.at all)
-    (all-right a.at b.at to.at all)
-    are
+outer-products-read-back = joins-read-back Outer times outer-products-by-name parts-of-target
 
 -- what is no block names none
 scaled-right : (p : Tree) (to from : BlockRef) (by : Operand) → is_block by ≡ false → block_agrees p to.at (Two by Times (operand.Block from)) ≡ true → same_set to.at from.at ≡ true

@@ -4,16 +4,17 @@ use Rattle.std.specs.Prelude.{sum_by, unwrap_or}
 use Rattle.std.proofs.lemmas.List.{length-map}
 use Rattle.std.proofs.lemmas.List.Sums.{sum_by-cons}
 use Rattle.sial_syntax.proofs.BoxLemmas.{tuples-are, tuple-within}
+use Rattle.sial_syntax.specs.declared.operand.Bin.{Bin}
 use Rattle.sial_syntax.specs.declared.operand.Bin.TheVariants.{Plus, Minus, Times, Outer}
 use Rattle.sial_syntax.specs.declared.operand.Op.{Op}
 use Rattle.sial_syntax.specs.Agreeing.{contains, all_in, has_twice}
 use Rattle.sial_syntax.specs.Boxes.{numbers_from, volume, tuples, tuple_at, IsTupleOf}
 use Rattle.sial_syntax.specs.Spaces.{Spaces, Extent, extent}
-use Rattle.sial_meaning.specs.JoinLaws.{shared_indices, word_under, contracted, SumsByName, DifferencesByName, OuterProductsByName, ScalingsByName, FillsEverywhere, ContractionsByName, ContractionsToNumbers}
+use Rattle.sial_meaning.specs.JoinLaws.{shared_indices, word_under, contracted, SumsByName, DifferencesByName, OuterProductsByName, ScalingsByName, FillsEverywhere, ContractionsByName, ContractionsToNumbers, JoinsByName}
 use Rattle.sial_meaning.specs.LocalStep.{whole_positions}
 use Rattle.sial_meaning.specs.Number.{plus, minus, times, combined}
 use Rattle.sial_meaning.specs.ReadBackLaws.{named_block, places_in, after_assignment, under}
-use Rattle.sial_meaning.specs.Right.{Plain, Shown, Alone, Joined, both, shared_dims, dim_lengths, product_at, side_at, met}
+use Rattle.sial_meaning.specs.Right.{Term, Plain, Shown, Alone, Joined, both, term_at, joined_at, shared_dims, dim_lengths, product_at, side_at, met}
 use Rattle.sial_meaning.specs.Sight.{Sight, Places, places_at, lengths, word_at, element}
 use Rattle.sial_meaning.proofs.PositionLemmas.{places-zip, whole-long}
 use Rattle.sial_meaning.proofs.ReadBackLemmas.{each-element-is-met, element-is, named-positions, named-lie, named-offsets}
@@ -50,23 +51,24 @@ met-some : (spaces : Spaces) (op : Op) (values to old tuple : List ℕ) (side : 
 met-some spaces op values to old tuple side n are is =
     each-element-is-met spaces op (named_block spaces values to old) side tuple are ∙ ap (met op (word_at (named_block spaces values to old) tuple)) is
 
--- sums
+-- two blocks joined element by element
+joins-by-name : (bin : Bin) (f : ℕ → ℕ → ℕ) → ((spaces : Spaces) (places : Places) (a b : Term) → joined_at spaces places a bin b ≡ both f (term_at spaces places a) (term_at spaces places b)) → JoinsByName bin f
+joins-by-name bin f joins spaces op values to a b old left right tuple once in-a in-b are =
+    let first : Sight = named_block spaces values a left in
+    let second : Sight = named_block spaces values b right in
+    met-some spaces op values to old tuple (Joined (Shown first) bin (Shown second)) (f (word_under to tuple first) (word_under to tuple second)) are
+    (joins spaces (places_in (named_block spaces values to old) tuple) (Shown first) (Shown second)
+    ∙ both-some f _ _ _ _ (element-in spaces values to tuple old a left once are in-a) (element-in spaces values to tuple old b right once are in-b))
+
+-- sums, differences and outer products
 pub sums-by-name : SumsByName
-sums-by-name spaces op values to a b old left right tuple once in-a in-b are =
-    met-some spaces op values to old tuple (Joined (Shown (named_block spaces values a left)) Plus (Shown (named_block spaces values b right))) _ are
-    (both-some plus _ _ _ _ (element-in spaces values to tuple old a left once are in-a) (element-in spaces values to tuple old b right once are in-b))
+sums-by-name = joins-by-name Plus plus (λ spaces places a b. refl)
 
--- differences
 pub differences-by-name : DifferencesByName
-differences-by-name spaces op values to a b old left right tuple once in-a in-b are =
-    met-some spaces op values to old tuple (Joined (Shown (named_block spaces values a left)) Minus (Shown (named_block spaces values b right))) _ are
-    (both-some minus _ _ _ _ (element-in spaces values to tuple old a left once are in-a) (element-in spaces values to tuple old b right once are in-b))
+differences-by-name = joins-by-name Minus minus (λ spaces places a b. refl)
 
--- outer products
 pub outer-products-by-name : OuterProductsByName
-outer-products-by-name spaces op values to a b old left right tuple once in-a in-b are =
-    met-some spaces op values to old tuple (Joined (Shown (named_block spaces values a left)) Outer (Shown (named_block spaces values b right))) _ are
-    (both-some times _ _ _ _ (element-in spaces values to tuple old a left once are in-a) (element-in spaces values to tuple old b right once are in-b))
+outer-products-by-name = joins-by-name Outer times (λ spaces places a b. refl)
 
 -- scalings
 pub scalings-by-name : ScalingsByName

@@ -10,7 +10,10 @@ pub mod DeedFold
 pub mod EachDeed
 pub mod CourseDeedLemmas
 pub mod CourseLogLemmas
+pub mod DeedWrites
 pub mod DeedSumLemmas
+pub mod DeedOrderLemmas
+pub mod ToComeStands
 pub mod ToComeLemmas
 pub mod ToComeWalk
 pub mod AlongSteps
@@ -18,7 +21,14 @@ pub mod AlongLemmas
 pub mod AlongDeeds
 pub mod FlagsKept
 pub mod AlongWhole
+pub mod AlongNumbers
+pub mod FitWalk
+pub mod AlongFits
+pub mod EpochFits
+pub mod AdditionLemmas
+pub mod PartialLemmas
 pub mod ResetLemmas
+pub mod ClosedLemmas
 pub mod AccumulationLemmas
 pub mod RestLemmas
 pub mod RestLemmasBound

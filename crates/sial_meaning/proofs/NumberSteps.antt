@@ -29,7 +29,7 @@ use Rattle.sial_meaning.proofs.NumberStart.{BodyHas, InnerHas, program-has, proc
 use Rattle.sial_meaning.proofs.NumberStatements.{FormHas, OutcomeHas, statement-has}
 
 -- the rest of the work has numbers alone: those that its statements write out, the ends of its loops, and index numbers that are kept
-abbrev RestHas : Rest → Type 0
+abbrev pub RestHas : Rest → Type 0
 RestHas (Over at) = Unit {0}
 RestHas (Next at line form rest) = FormHas form × InnerHas form × RestHas rest
 RestHas (Turn loop last rest) = BodyHas loop.body × IsNumber last × RestHas rest
@@ -38,18 +38,18 @@ RestHas (Back at values rest) = AreNumbers values × RestHas rest
 RestHas (Within pardo number rest) = BodyHas pardo.body × RestHas rest
 
 -- where control goes
-abbrev LedHas : Led → Type 0
+abbrev pub LedHas : Led → Type 0
 LedHas (Goes rest own) = RestHas rest × OwnHasNumbers own
 LedHas (Halts trap) = Unit {0}
 
 -- where a step leads
-abbrev StepHas : Stepped → Type 0
+abbrev pub StepHas : Stepped → Type 0
 StepHas (Moved w) = RestHas w.rest × HasNumbers w.state
 StepHas (Halted trap s) = HasNumbers s
 StepHas Ended = Unit {0}
 
 -- statements before the rest
-pushed-has : (at : ℕ) (body : Block) (rest : Rest) → BodyHas body → RestHas rest → RestHas (push at body rest)
+pub pushed-has : (at : ℕ) (body : Block) (rest : Rest) → BodyHas body → RestHas rest → RestHas (push at body rest)
 pushed-has at End rest body-is rest-is = rest-is
 pushed-has at (Then line form more) rest body-is rest-is = (body-is.0, body-is.1, pushed-has (at + size form) more rest body-is.2 rest-is)
 
@@ -136,7 +136,7 @@ begun-has true pardo number rest own body rest-is has = (pushed-has (pardo.head 
 begun-has false pardo number rest own body rest-is has = ((body, rest-is), has)
 
 -- the end of a pardo's body
-within-has : (g : Setting) → IsSound g → (more : Bool) (pardo : PardoAt) (number : ℕ) (rest : Rest) (own : Own) → nat_lt number (volume (box_of g.spaces pardo.indices)) ≡ more → BodyHas pardo.body → RestHas rest → OwnHasNumbers own
+pub within-has : (g : Setting) → IsSound g → (more : Bool) (pardo : PardoAt) (number : ℕ) (rest : Rest) (own : Own) → nat_lt number (volume (box_of g.spaces pardo.indices)) ≡ more → BodyHas pardo.body → RestHas rest → OwnHasNumbers own
     → LedHas (went_within g more pardo number rest own)
 within-has g sound true pardo number rest own is body rest-is has =
     let held = taken_up g pardo.indices (tuple_at (box_of g.spaces pardo.indices) number) own in
@@ -162,7 +162,7 @@ form-has g sound at line (Call procedure) rest own inner rest-is has = called-ha
 form-has g sound at line form rest own inner rest-is has = (rest-is, has)
 
 -- where control leads in a state
-led-has : (s : State) (to : Led) → HasNumbers s → LedHas to → StepHas (led s to)
+pub led-has : (s : State) (to : Led) → HasNumbers s → LedHas to → StepHas (led s to)
 led-has s (Goes rest own) has to = (to.0, record { own = to.1; partials = has.partials; shared = has.shared; copies = has.copies })
 led-has s (Halts trap) has to = has
 
@@ -199,7 +199,7 @@ next-has reading g sound at line (PrintScalar scalar) rest s out inner rest-is h
 next-has reading g sound at line (Integrals block) rest s out inner rest-is has = done-has (statement reading g line (Integrals block) s) rest (statement-has reading g line (Integrals block) s out has) rest-is
 
 -- one step
-step-has : (reading : Reading) (g : Setting) → IsSound g → (rest : Rest) (s : State) → RestHas rest → HasNumbers s → StepHas (step_from reading g rest s)
+pub step-has : (reading : Reading) (g : Setting) → IsSound g → (rest : Rest) (s : State) → RestHas rest → HasNumbers s → StepHas (step_from reading g rest s)
 step-has reading g sound (Over at) s rest-is has = tt
 step-has reading g sound (Next at line form rest) s rest-is has = next-has reading g sound at line form rest s rest-is.0 rest-is.1 rest-is.2 has
 step-has reading g sound (Turn loop last rest) s rest-is has =
@@ -212,7 +212,7 @@ step-has reading g sound (Within pardo number rest) s rest-is has =
     (within-has g sound (nat_lt number (volume (box_of g.spaces pardo.indices))) pardo number rest s.own refl rest-is.0 rest-is.1 has.own)
 
 -- so many steps
-steps-have : (reading : Reading) (g : Setting) → IsSound g → (count : ℕ) (rest : Rest) (s : State) → RestHas rest → HasNumbers s → StepHas (steps reading g count (record { rest = rest; state = s }))
+pub steps-have : (reading : Reading) (g : Setting) → IsSound g → (count : ℕ) (rest : Rest) (s : State) → RestHas rest → HasNumbers s → StepHas (steps reading g count (record { rest = rest; state = s }))
 steps-have reading g sound zero rest s rest-is has = (rest-is, has)
 steps-have reading g sound (suc n) rest s rest-is has =
     further (step_from reading g rest s) (step-has reading g sound rest s rest-is has) (λ r t r-is t-has. steps-have reading g sound n r t r-is t-has)

@@ -101,7 +101,7 @@ place-at t u same =
     }
 
 -- a count over one more
-count-next : {X : Type 0} (p : X → Bool) (x : X) (xs : List X) → count_by p (x ∷ xs) ≡ cond (p x) 1 0 + count_by p xs
+pub count-next : {X : Type 0} (p : X → Bool) (x : X) (xs : List X) → count_by p (x ∷ xs) ≡ cond (p x) 1 0 + count_by p xs
 count-next p x xs = sum_by-cons (λ y. cond (p y) 1 0) x xs
 
 -- a count over one more, which isn't counted

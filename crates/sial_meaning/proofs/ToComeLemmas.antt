@@ -1,179 +1,46 @@
 -- A step inside an iteration takes the first part of what is still to come off.
-use Rattle.std.proofs.Common.{◌≡◌, ℕ, zero, suc, ◌+◌, ◌-◌, ◌<◌, ◌≤◌, List, [], ◌∷◌, ◌++◌, Bool, true, false, ◌&&◌, Ok, Err, length, nat_lt, refl, sym, ap, ◌∙◌, subst, arith, inl, inr, append_assoc, append-nil, IsTrue}
+use Rattle.std.proofs.Common.{◌≡◌, ℕ, zero, suc, ◌+◌, ◌-◌, ◌<◌, ◌≤◌, List, [], ◌∷◌, Bool, true, false, ◌&&◌, Ok, Err, length, nat_lt, refl, sym, ap, ◌∙◌, arith, inl}
 use Rattle.std.proofs.lemmas.Bool.{ltb-true}
 use Rattle.std.proofs.lemmas.Bool.Decides.{nat_tests}
 use Rattle.std.proofs.lemmas.List.{length-set, length-replicate}
-use Rattle.sial_syntax.proofs.AmongLemmas.{Among, among_left, among_right}
-use Rattle.sial_syntax.specs.Agreeing.{share_any}
+use Rattle.sial_syntax.proofs.AmongLemmas.{among_left, among_right}
 use Rattle.sial_syntax.specs.Boxes.{numbers_from}
-use Rattle.sial_syntax.specs.Numbering.{size, sizes, entry_of}
-use Rattle.sial_syntax.specs.Parts.{indices_bound}
-use Rattle.sial_syntax.specs.Proper.{has_index, proper_body, proper_form, proper_cond}
-use Rattle.sial_syntax.specs.Sides.{called_by}
+use Rattle.sial_syntax.specs.Numbering.{sizes, entry_of}
+use Rattle.sial_syntax.specs.Proper.{has_index, proper_body, proper_cond}
 use Rattle.sial_syntax.specs.Spaces.{first_of, count_of, pieces_of}
-use Rattle.sial_syntax.specs.Tree.{Block, End, Then, Plain, Do, DoIn, Pardo, If, IfElse, Call}
-use Rattle.sial_syntax.specs.Visits.{Visit, visits, inner_visits}
+use Rattle.sial_syntax.specs.Tree.{Plain, Do, DoIn, Pardo, If, IfElse, Call}
+use Rattle.sial_syntax.specs.Visits.{visits}
 use Rattle.sial_meaning.specs.Control.{depth_left, entered, turned, branched, called, loop_at}
-use Rattle.sial_meaning.specs.Deeds.{Deed}
 use Rattle.sial_meaning.specs.LocalStep.{Answer}
-use Rattle.sial_meaning.specs.Meaning.{block_meaning, calls, call_depth, condition}
+use Rattle.sial_meaning.specs.Meaning.{call_depth, condition}
 use Rattle.sial_meaning.specs.Own.{Own, value_of, bound, none_bound, with_values}
-use Rattle.sial_meaning.specs.Ran.{View, Ran, Held, Broke, outcome_in, behind, and_so, ran_over, ran_then, ran_by, statement_ran, block_ran, form_ran, calls_ran}
+use Rattle.sial_meaning.specs.Ran.{View, Ran, Through, Broke, behind, and_so, ran_over, ran_then, ran_by, statement_ran, block_ran, calls_ran}
 use Rattle.sial_meaning.specs.Rest.{LoopAt, Rest, Over, Next, Turn, Join, Back, Within, push, depth}
 use Rattle.sial_meaning.specs.Setting.{Setting, procedure_body}
 use Rattle.sial_meaning.specs.Sound.{IsGrantedSetting}
-use Rattle.sial_meaning.specs.State.{State}
-use Rattle.sial_meaning.specs.Statement.{Went, Copied, statement}
 use Rattle.sial_meaning.specs.ToCome.{rest_ran, Inner, On, Out, AtEnd, led_on, done_on, inner_step}
 use Rattle.sial_meaning.proofs.ControlLemmasStatement.{Calm}
 use Rattle.sial_meaning.proofs.CourseLemmasStand.{CalledWithin, within_calm}
-use Rattle.sial_meaning.proofs.DeedFold.{block_is, calls_are}
-use Rattle.sial_meaning.proofs.DeedStatement.{statement_is}
-use Rattle.sial_meaning.proofs.RestLemmasBound.{Kept, kept_went, calls_go, block_kept}
-use Rattle.sial_meaning.proofs.RestLemmasKept.{GoesWith, statement_goes}
-use Rattle.sial_meaning.proofs.RestLemmasRules.{Unbroken, both, unbroken_cons, unbroken_append, unbound_there, procedure_sound}
-use Rattle.sial_meaning.proofs.RestLemmasTurns.{depth_pushed, first_among, bound_value}
-
--- nothing before
-pub behind_none : (x : Ran) → behind [] x ≡ x
-behind_none (Held ds own) = refl
-behind_none (Broke ds trap own) = refl
-
--- some deeds before, and others before those
-pub behind_append : (a b : List Deed) (x : Ran) → behind (a ++ b) x ≡ behind a (behind b x)
-behind_append a b (Held ds own) = ap (λ es. Held es own) (append_assoc a b ds)
-behind_append a b (Broke ds trap own) = ap (λ es. Broke es trap own) (append_assoc a b ds)
-
--- what follows deeds that were done
-and_behind : (ds : List Deed) (x : Ran) (f : Own → Ran) → and_so (behind ds x) f ≡ behind ds (and_so x f)
-and_behind ds (Held es own) f = behind_append ds es (f own)
-and_behind ds (Broke es trap own) f = refl
-
--- one thing after another, and then a third
-pub and_and : (x : Ran) (f h : Own → Ran) → and_so (and_so x f) h ≡ and_so x (λ o. and_so (f o) h)
-and_and (Held ds own) f h = and_behind ds (f own) h
-and_and (Broke ds trap own) f h = refl
-
--- one thing and nothing more
-pub and_none : (x : Ran) → and_so x (Held []) ≡ x
-and_none (Held ds own) = ap (λ es. Held es own) (append-nil ds)
-and_none (Broke ds trap own) = refl
-
--- what follows is the same wherever the first thing leads
-and_same : (x : Ran) (f h : Own → Ran) → ((ds : List Deed) (o : Own) → x ≡ Held ds o → f o ≡ h o) → and_so x f ≡ and_so x h
-and_same (Held ds own) f h e = ap (behind ds) (e ds own refl)
-and_same (Broke ds trap own) f h e = refl
-
--- statements before the rest
-pub pushed_ran : (g : Setting) (v : View) (at : ℕ) (body : Block) (rest : Rest) (own : Own) → rest_ran g v (push at body rest) own ≡ and_so (block_ran g v (calls_ran g v (depth_left rest)) body own) (rest_ran g v rest)
-pushed_ran g v at End rest own = sym (behind_none (rest_ran g v rest own))
-pushed_ran g v at (Then line form more) rest own =
-    ap (λ d. and_so (form_ran g v (calls_ran g v (call_depth - d)) line form own) (rest_ran g v (push (at + size form) more rest))) (depth_pushed (at + size form) more rest)
-    ∙ (and_same
-    (form_ran g v (calls_ran g v (depth_left rest)) line form own)
-    (rest_ran g v (push (at + size form) more rest))
-    (λ o. and_so (block_ran g v (calls_ran g v (depth_left rest)) more o) (rest_ran g v rest))
-    (λ ds o e. pushed_ran g v (at + size form) more rest o)
-    ∙ sym (and_and (form_ran g v (calls_ran g v (depth_left rest)) line form own) (block_ran g v (calls_ran g v (depth_left rest)) more) (rest_ran g v rest)))
-
--- a state that an iteration sees so
-abbrev bare : View → Own → State
-bare v own = record { own = own; partials = []; shared = v.copies; copies = v.copies; epochs = v.epochs; lines = []; log = [] }
-
--- where an outcome went, and what the worker held there
-went_own : (s : State) (x : Ran) (ds : List Deed) (o : Own) → x ≡ Held ds o → (t : State) × (outcome_in s x ≡ Went t) × (t.own ≡ o)
-went_own s x ds o e = (_, ap (outcome_in s) e, refl)
+use Rattle.sial_meaning.proofs.RestLemmasRules.{both, unbroken_append, procedure_sound}
+use Rattle.sial_meaning.proofs.RestLemmasTurns.{first_among, bound_value}
+use Rattle.sial_meaning.proofs.ToComeStands.{behind_none, and_and, and_same, pushed_ran, BodyIn, RestIn, AsMany, pushed_in, body_keeps, statement_keeps}
 
 module _ (g : Setting) (set : IsGrantedSetting g) where
-  -- statements that stand inside a pardo, where these indices are bound
-  pub record BodyIn (indices : List ℕ) (within : Bool) (body : Block) : Type 0 where
-    pub proper : IsTrue (proper_body g.program body)
-    pub unbroken : Unbroken g.program (visits indices within body)
-    pub calm : (v : Visit) → Among v (visits indices within body) → Calm g v.form × ((q : ℕ) → Among q (called_by v.form) → CalledWithin g set q)
-
-  -- a statement that stands so
-  pub record FormIn (indices : List ℕ) (within : Bool) (form : Plain) : Type 0 where
-    pub proper : IsTrue (proper_form g.program form)
-    pub out : share_any (indices_bound form) indices ≡ false
-    pub unbroken : Unbroken g.program (inner_visits indices within form)
-    pub here : Calm g form × ((q : ℕ) → Among q (called_by form) → CalledWithin g set q)
-    pub calm : (v : Visit) → Among v (inner_visits indices within form) → Calm g v.form × ((q : ℕ) → Among q (called_by v.form) → CalledWithin g set q)
-
-  -- all that is left of an iteration stands so
-  abbrev pub RestIn : Rest → Type 0
-  RestIn (Over at) = ⊥
-  RestIn (Next at line form rest) = ((indices : List ℕ) × (within : Bool) × FormIn indices within form) × RestIn rest
-  RestIn (Turn loop last rest) = ((indices : List ℕ) × (within : Bool) × BodyIn (loop.index ∷ indices) within loop.body × (loop.index < length g.program.indices)) × RestIn rest
-  RestIn (Join at rest) = RestIn rest
-  RestIn (Back at values rest) = (length values ≡ length g.program.indices) × RestIn rest
-  RestIn (Within pardo number rest) = Unit {0}
-
-  -- there are as many numbers as indices
-  abbrev pub AsMany : Own → Type 0
-  AsMany own = length own.values ≡ length g.program.indices
-
-  -- the first of some statements
-  first_in : (indices : List ℕ) (within : Bool) (line : ℕ) (form : Plain) (rest : Block) → BodyIn indices within (Then line form rest) → FormIn indices within form × BodyIn indices within rest
-  first_in indices within line form rest b =
-      let here : Visit = record { line = line; form = form; bound = indices; within = within } in
-      let parts = both (proper_form g.program form) (proper_body g.program rest) b.proper in
-      let first = unbroken_cons g.program here (inner_visits indices within form ++ visits indices within rest) b.unbroken in
-      let inner = unbroken_append g.program (inner_visits indices within form) (visits indices within rest) first.1 in (
-        record {
-          proper = parts.0;
-          out = unbound_there g.program here first.0;
-          unbroken = inner.0;
-          here = b.calm here (inl refl);
-          calm = λ v m. b.calm v (inr (among_left v (inner_visits indices within form) (visits indices within rest) m));
-        },
-        record {
-          proper = parts.1;
-          unbroken = inner.1;
-          calm = λ v m. b.calm v (inr (among_right v (inner_visits indices within form) (visits indices within rest) m));
-        },
-      )
-
-  -- statements before the rest
-  pub pushed_in : (indices : List ℕ) (within : Bool) (at : ℕ) (body : Block) (rest : Rest) → BodyIn indices within body → RestIn rest → RestIn (push at body rest)
-  pushed_in indices within at End rest b r = r
-  pushed_in indices within at (Then line form more) rest b r =
-      let first = first_in indices within line form more b in ((indices, within, first.0), pushed_in indices within (at + size form) more rest first.1 r)
-
-  -- a body leaves the numbers of the indices that are bound there
-  body_keeps : (v : View) (d : ℕ) (indices : List ℕ) (within : Bool) (body : Block) → BodyIn indices within body → (own o : Own) (ds : List Deed) → block_ran g v (calls_ran g v d) body own ≡ Held ds o → Kept indices own o
-  body_keeps v d indices within body b own o ds e =
-      let s : State = bare v own in
-      let went = went_own s (block_ran g v (calls_ran g v d) body own) ds o e in
-      let same : block_meaning Copied g (calls Copied g d) body s ≡ Went went.0 =
-      block_is g (calls Copied g d) (λ v. calls_ran g v d) indices within body (λ v m. let calm = b.calm v m in (calm.0, λ q c. calls_are g set d q (calm.1 q c))) s ∙ went.1 in
-      subst
-      (λ (x : Own). Kept indices own x)
-      went.2
-      (kept_went indices own (block_meaning Copied g (calls Copied g d) body s) went.0 (block_kept Copied g (calls Copied g d) (calls_go Copied g d) indices within body b.unbroken s) same)
-
-  -- a statement leaves all numbers
-  statement_keeps : (v : View) (line : ℕ) (form : Plain) → Calm g form → (own o : Own) (ds : List Deed) → statement_ran g v line form own ≡ Held ds o → o.values ≡ own.values
-  statement_keeps v line form calm own o ds e =
-      let s : State = bare v own in
-      let went = went_own s (statement_ran g v line form own) ds o e in
-      let same : statement Copied g line form s ≡ Went went.0 = statement_is g line form calm s ∙ went.1 in
-      subst (λ (x : Own). x.values ≡ own.values) went.2 (subst (GoesWith own.values) same (statement_goes Copied g line form s))
-
   -- what a step inside leads to, beside what is still to come
   abbrev pub Took : View → Rest → Own → Inner → Type 0
-  Took v r own (On did rest held) = (RestIn rest × AsMany held) × (rest_ran g v r own ≡ behind did (rest_ran g v rest held))
+  Took v r own (On did rest held) = (RestIn g set rest × AsMany g set held) × (rest_ran g v r own ≡ behind did (rest_ran g v rest held))
   Took v r own (Out did trap held) = rest_ran g v r own ≡ Broke did trap held
   Took v r own AtEnd = (pardo : _) × (number : ℕ) × (rest : Rest) × (r ≡ Within pardo number rest)
 
   module _ (v : View) where
     -- a body with what follows it, where a loop's index has this number, so many behind it
-    turns_ran : (loop : LoopAt) (last first n : ℕ) (rest : Rest) (own : Own) (indices : List ℕ) (within : Bool) → first + n ≡ last → loop.index < length own.values → BodyIn (loop.index ∷ indices) within loop.body
+    turns_ran : (loop : LoopAt) (last first n : ℕ) (rest : Rest) (own : Own) (indices : List ℕ) (within : Bool) → first + n ≡ last → loop.index < length own.values → BodyIn g set (loop.index ∷ indices) within loop.body
         → and_so (ran_then (ran_over (numbers_from first (suc n)) (λ k o. block_ran g v (calls_ran g v (depth_left rest)) loop.body (bound loop.index k o)) own) (bound loop.index 0)) (rest_ran g v rest)
         ≡ rest_ran g v (push (loop.head + 1) loop.body (Turn loop last rest)) (bound loop.index first own)
     turns_ran loop last first n rest own indices within ends there b =
         let turn : ℕ → Own → Ran = λ k o. block_ran g v (calls_ran g v (depth_left rest)) loop.body (bound loop.index k o) in
         let others : Own → Ran = ran_over (numbers_from (first + 1) n) turn in
-        let past : Own → Ran = λ o. Held [] (bound loop.index 0 o) in
+        let past : Own → Ran = λ o. Through [] (bound loop.index 0 o) in
         ap (λ x. and_so x (rest_ran g v rest)) (and_and (turn first own) others past)
         ∙ (and_and (turn first own) (λ o. and_so (others o) past) (rest_ran g v rest)
         ∙ (and_same
@@ -181,7 +48,7 @@ module _ (g : Setting) (set : IsGrantedSetting g) where
         (λ o. and_so (and_so (others o) past) (rest_ran g v rest))
         (rest_ran g v (Turn loop last rest))
         (λ ds o e.
-        let kept = body_keeps v (depth_left rest) (loop.index ∷ indices) within loop.body b (bound loop.index first own) o ds e in
+        let kept = body_keeps g set v (depth_left rest) (loop.index ∷ indices) within loop.body b (bound loop.index first own) o ds e in
         let value : value_of o loop.index ≡ first = kept.same loop.index (first_among loop.index indices) ∙ bound_value loop.index first own there in
         let left : n ≡ last - first = omega (arith, ends) in
         ap (λ m. and_so (and_so (ran_over (numbers_from (first + 1) m) turn o) past) (rest_ran g v rest)) left
@@ -189,22 +56,22 @@ module _ (g : Setting) (set : IsGrantedSetting g) where
         ∙ sym (pushed_ran g v (loop.head + 1) loop.body (Turn loop last rest) (bound loop.index first own))))
 
     -- a loop that has no number left
-    no_turns : (loop : LoopAt) (rest : Rest) (own : Own) → and_so (ran_then (Held [] own) (bound loop.index 0)) (rest_ran g v rest) ≡ behind [] (rest_ran g v rest (bound loop.index 0 own))
+    no_turns : (loop : LoopAt) (rest : Rest) (own : Own) → and_so (ran_then (Through [] own) (bound loop.index 0)) (rest_ran g v rest) ≡ behind [] (rest_ran g v rest (bound loop.index 0 own))
     no_turns loop rest own = refl
 
     -- a loop entered
-    entered_took : (loop : LoopAt) (first count : ℕ) (rest : Rest) (own : Own) (indices : List ℕ) (within : Bool) (r : Rest) → loop.index < length g.program.indices → BodyIn (loop.index ∷ indices) within loop.body → RestIn rest → AsMany own
+    entered_took : (loop : LoopAt) (first count : ℕ) (rest : Rest) (own : Own) (indices : List ℕ) (within : Bool) (r : Rest) → loop.index < length g.program.indices → BodyIn g set (loop.index ∷ indices) within loop.body → RestIn g set rest → AsMany g set own
         → rest_ran g v r own ≡ and_so (ran_then (ran_over (numbers_from first count) (λ k o. block_ran g v (calls_ran g v (depth_left rest)) loop.body (bound loop.index k o)) own) (bound loop.index 0)) (rest_ran g v rest)
         → Took v r own (led_on own (entered loop first count rest own))
     entered_took loop first zero rest own indices within r there b others many e = ((others, length-set own.values loop.index 0 ∙ many), e)
     entered_took loop first (suc n) rest own indices within r there b others many e =
         let inside : loop.index < length own.values = omega (arith, there, many) in (
-          (pushed_in (loop.index ∷ indices) within (loop.head + 1) loop.body (Turn loop (first + n) rest) b ((indices, within, b, there), others), length-set own.values loop.index first ∙ many),
+          (pushed_in g set (loop.index ∷ indices) within (loop.head + 1) loop.body (Turn loop (first + n) rest) b ((indices, within, b, there), others), length-set own.values loop.index first ∙ many),
           e ∙ (turns_ran loop (first + n) first n rest own indices within refl inside b ∙ sym (behind_none (rest_ran g v (push (loop.head + 1) loop.body (Turn loop (first + n) rest)) (bound loop.index first own)))),
         )
 
     -- the end of a loop's body
-    turned_took : (more : Bool) (loop : LoopAt) (last : ℕ) (rest : Rest) (own : Own) (indices : List ℕ) (within : Bool) → nat_lt (value_of own loop.index) last ≡ more → loop.index < length g.program.indices → BodyIn (loop.index ∷ indices) within loop.body → RestIn rest → AsMany own
+    turned_took : (more : Bool) (loop : LoopAt) (last : ℕ) (rest : Rest) (own : Own) (indices : List ℕ) (within : Bool) → nat_lt (value_of own loop.index) last ≡ more → loop.index < length g.program.indices → BodyIn g set (loop.index ∷ indices) within loop.body → RestIn g set rest → AsMany g set own
         → Took v (Turn loop last rest) own (led_on own (turned more loop last rest own))
     turned_took true loop last rest own indices within is there b others many =
         let k : ℕ = value_of own loop.index in
@@ -212,7 +79,7 @@ module _ (g : Setting) (set : IsGrantedSetting g) where
         let inside : loop.index < length own.values = omega (arith, there, many) in
         let left : last - k ≡ suc (last - (k + 1)) = omega (arith, low) in
         let turn : ℕ → Own → Ran = λ k o. block_ran g v (calls_ran g v (depth_left rest)) loop.body (bound loop.index k o) in (
-          (pushed_in (loop.index ∷ indices) within (loop.head + 1) loop.body (Turn loop last rest) b ((indices, within, b, there), others), length-set own.values loop.index (k + 1) ∙ many),
+          (pushed_in g set (loop.index ∷ indices) within (loop.head + 1) loop.body (Turn loop last rest) b ((indices, within, b, there), others), length-set own.values loop.index (k + 1) ∙ many),
           ap (λ n. and_so (ran_then (ran_over (numbers_from (k + 1) n) turn own) (bound loop.index 0)) (rest_ran g v rest)) left
               ∙ (turns_ran loop last (k + 1) (last - (k + 1)) rest own indices within (omega (arith, low)) inside b
               ∙ sym (behind_none (rest_ran g v (push (loop.head + 1) loop.body (Turn loop last rest)) (bound loop.index (k + 1) own)))),
@@ -225,7 +92,7 @@ module _ (g : Setting) (set : IsGrantedSetting g) where
         ((others, length-set own.values loop.index 0 ∙ many), ap (λ n. and_so (ran_then (ran_over (numbers_from (k + 1) n) turn own) (bound loop.index 0)) (rest_ran g v rest)) left)
 
     -- a branch
-    branched_took : (line : ℕ) (answer : Answer Bool) (met unmet : Rest) (own : Own) (run other : Own → Ran) (rest r : Rest) → RestIn met → RestIn unmet → AsMany own
+    branched_took : (line : ℕ) (answer : Answer Bool) (met unmet : Rest) (own : Own) (run other : Own → Ran) (rest r : Rest) → RestIn g set met → RestIn g set unmet → AsMany g set own
         → rest_ran g v met own ≡ and_so (run own) (rest_ran g v rest) → rest_ran g v unmet own ≡ and_so (other own) (rest_ran g v rest)
         → rest_ran g v r own ≡ and_so (ran_by line answer run other own) (rest_ran g v rest)
         → Took v r own (led_on own (branched line answer met unmet own))
@@ -234,12 +101,12 @@ module _ (g : Setting) (set : IsGrantedSetting g) where
     branched_took line (Err kind) met unmet own run other rest r a b many first second e = e
 
     -- a procedure's statements
-    procedure_in : (q : ℕ) → CalledWithin g set q → BodyIn [] false (procedure_body g q)
+    procedure_in : (q : ℕ) → CalledWithin g set q → BodyIn g set [] false (procedure_body g q)
     procedure_in q called =
         let sound = procedure_sound g set.proper set.granted q in record { proper = sound.proper; unbroken = sound.unbroken; calm = λ v m. within_calm g set q called v m }
 
     -- a call
-    called_took : (more : Bool) (q : ℕ) (rest r : Rest) (own : Own) → nat_lt (depth rest) call_depth ≡ more → CalledWithin g set q → RestIn rest → AsMany own
+    called_took : (more : Bool) (q : ℕ) (rest r : Rest) (own : Own) → nat_lt (depth rest) call_depth ≡ more → CalledWithin g set q → RestIn g set rest → AsMany g set own
         → rest_ran g v r own ≡ and_so (calls_ran g v (depth_left rest) q own) (rest_ran g v rest)
         → Took v r own (led_on own (called g more q rest own))
     called_took true q rest r own is inner others many e =
@@ -248,13 +115,13 @@ module _ (g : Setting) (set : IsGrantedSetting g) where
         let deeper : depth_left rest ≡ suc (call_depth - (depth rest + 1)) = omega (arith, low) in
         let x : Ran = block_ran g v (calls_ran g v (depth_left back)) (procedure_body g q) (none_bound own) in (
           (
-            pushed_in [] false (entry_of g.program q) (procedure_body g q) back (procedure_in q inner) (many, others),
+            pushed_in g set [] false (entry_of g.program q) (procedure_body g q) back (procedure_in q inner) (many, others),
             length-replicate {A = ℕ} (length own.values) 0 ∙ many,
           ),
           e
               ∙ (ap (λ d. and_so (calls_ran g v d q own) (rest_ran g v rest)) deeper
-              ∙ (and_and x (λ o. Held [] (with_values own.values o)) (rest_ran g v rest)
-              ∙ (and_same x (λ o. and_so (Held [] (with_values own.values o)) (rest_ran g v rest)) (rest_ran g v back) (λ ds o was. behind_none (rest_ran g v rest (with_values own.values o)))
+              ∙ (and_and x (λ o. Through [] (with_values own.values o)) (rest_ran g v rest)
+              ∙ (and_same x (λ o. and_so (Through [] (with_values own.values o)) (rest_ran g v rest)) (rest_ran g v back) (λ ds o was. behind_none (rest_ran g v rest (with_values own.values o)))
               ∙ (sym (pushed_ran g v (entry_of g.program q) (procedure_body g q) back (none_bound own))
               ∙ sym (behind_none (rest_ran g v (push (entry_of g.program q) (procedure_body g q) back) (none_bound own))))))),
         )
@@ -264,13 +131,13 @@ module _ (g : Setting) (set : IsGrantedSetting g) where
         ((others, many), e ∙ ap (λ d. and_so (calls_ran g v d q own) (rest_ran g v rest)) none)
 
     -- a statement that holds no other
-    done_took : (at line : ℕ) (form : Plain) (rest : Rest) (own : Own) → Calm g form → RestIn rest → AsMany own → (x : Ran) → statement_ran g v line form own ≡ x
+    done_took : (at line : ℕ) (form : Plain) (rest : Rest) (own : Own) → Calm g form → RestIn g set rest → AsMany g set own → (x : Ran) → statement_ran g v line form own ≡ x
         → rest_ran g v (Next at line form rest) own ≡ and_so x (rest_ran g v rest) → Took v (Next at line form rest) own (done_on x rest)
-    done_took at line form rest own calm others many (Held ds o) is e = ((others, ap length (statement_keeps v line form calm own o ds is) ∙ many), e)
+    done_took at line form rest own calm others many (Through ds o) is e = ((others, ap length (statement_keeps g set v line form calm own o ds is) ∙ many), e)
     done_took at line form rest own calm others many (Broke ds trap o) is e = e
 
     -- each step inside
-    pub step_took : (r : Rest) (own : Own) → RestIn r → AsMany own → Took v r own (inner_step g v r own)
+    pub step_took : (r : Rest) (own : Own) → RestIn g set r → AsMany g set own → Took v r own (inner_step g v r own)
     step_took (Over at) own r many = absurd r
     step_took (Next at line (Do index body) rest) own r many =
         let f = r.0.2 in
@@ -318,10 +185,10 @@ module _ (g : Setting) (set : IsGrantedSetting g) where
         rest
         own
         (block_ran g v (calls_ran g v (depth_left rest)) body)
-        (Held [])
+        (Through [])
         rest
         (Next at line (If test body) rest)
-        (pushed_in r.0.0 r.0.1 (at + 1) body (Join (at + 1 + sizes body) rest) (record { proper = parts.1; unbroken = f.unbroken; calm = f.calm }) r.1)
+        (pushed_in g set r.0.0 r.0.1 (at + 1) body (Join (at + 1 + sizes body) rest) (record { proper = parts.1; unbroken = f.unbroken; calm = f.calm }) r.1)
         r.1
         many
         (pushed_ran g v (at + 1) body (Join (at + 1 + sizes body) rest) own)
@@ -342,8 +209,8 @@ module _ (g : Setting) (set : IsGrantedSetting g) where
         (block_ran g v (calls_ran g v (depth_left rest)) other)
         rest
         (Next at line (IfElse test body other) rest)
-        (pushed_in r.0.0 r.0.1 (at + 1) body (Join (at + 1 + sizes body) rest) (record { proper = parts.0; unbroken = ways.0; calm = λ v m. f.calm v (among_left v (visits r.0.0 r.0.1 body) (visits r.0.0 r.0.1 other) m) }) r.1)
-        (pushed_in r.0.0 r.0.1 (at + 2 + sizes body) other (Join (at + 2 + sizes body + sizes other) rest) (record { proper = parts.1; unbroken = ways.1; calm = λ v m. f.calm v (among_right v (visits r.0.0 r.0.1 body) (visits r.0.0 r.0.1 other) m) }) r.1)
+        (pushed_in g set r.0.0 r.0.1 (at + 1) body (Join (at + 1 + sizes body) rest) (record { proper = parts.0; unbroken = ways.0; calm = λ v m. f.calm v (among_left v (visits r.0.0 r.0.1 body) (visits r.0.0 r.0.1 other) m) }) r.1)
+        (pushed_in g set r.0.0 r.0.1 (at + 2 + sizes body) other (Join (at + 2 + sizes body + sizes other) rest) (record { proper = parts.1; unbroken = ways.1; calm = λ v m. f.calm v (among_right v (visits r.0.0 r.0.1 body) (visits r.0.0 r.0.1 other) m) }) r.1)
         many
         (pushed_ran g v (at + 1) body (Join (at + 1 + sizes body) rest) own)
         (pushed_ran g v (at + 2 + sizes body) other (Join (at + 2 + sizes body + sizes other) rest) own)

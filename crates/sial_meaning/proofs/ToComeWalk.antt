@@ -7,17 +7,19 @@ use Rattle.sial_meaning.specs.Course.{course}
 use Rattle.sial_meaning.specs.Deeds.{Deed}
 use Rattle.sial_meaning.specs.Meaning.{all_met, taken_up}
 use Rattle.sial_meaning.specs.Own.{Own, unset}
-use Rattle.sial_meaning.specs.Ran.{View, Broke, behind, block_ran, calls_ran, ran_unless_left_out}
-use Rattle.sial_meaning.specs.Rest.{Rest, Within}
+use Rattle.sial_meaning.specs.Ran.{View, Broke, behind, block_ran, calls_ran, ran_unless_left_out, outcome_in, statement_ran}
+use Rattle.sial_meaning.specs.Rest.{Rest, Next, Within}
 use Rattle.sial_meaning.specs.Setting.{Setting}
 use Rattle.sial_meaning.specs.Sound.{IsGrantedSetting}
 use Rattle.sial_meaning.specs.ToCome.{rest_ran, Inner, On, Out, AtEnd, inner_step, inner_behind, inner_on, inner_steps}
-use Rattle.sial_meaning.specs.ToComeLaws.{PardoOf, code_of, Begins, IsInside, whole_iteration, AllIsToCome, TakesFirst, StepsTakeTheFirstPart, DoneAndToCome, BeginningsAreInside, StepsStayInside}
+use Rattle.sial_meaning.specs.ToComeLaws.{PardoOf, code_of, Begins, IsInside, whole_iteration, AllIsToCome, TakesFirst, StepsTakeTheFirstPart, DoneAndToCome, BeginningsAreInside, StepsStayInside, StatementsInsideAreTheirDeeds}
 use Rattle.sial_meaning.proofs.CourseLemmasFit.{course_fit}
 use Rattle.sial_meaning.proofs.CourseLemmasKept.{begins_so}
 use Rattle.sial_meaning.proofs.CourseLemmasStand.{visits_within}
+use Rattle.sial_meaning.proofs.DeedStatement.{statement_is}
 use Rattle.sial_meaning.proofs.RestLemmasBound.{all_bound_len}
-use Rattle.sial_meaning.proofs.ToComeLemmas.{behind_none, behind_append, and_none, pushed_ran, BodyIn, RestIn, AsMany, pushed_in, Took, step_took}
+use Rattle.sial_meaning.proofs.ToComeLemmas.{Took, step_took}
+use Rattle.sial_meaning.proofs.ToComeStands.{behind_none, behind_append, and_none, pushed_ran, BodyIn, RestIn, AsMany, pushed_in}
 
 module _ (g : Setting) (set : IsGrantedSetting g) (v : View) where
   -- where steps inside lead, beside what is still to come
@@ -63,7 +65,7 @@ module _ (g : Setting) (set : IsGrantedSetting g) (v : View) where
     many = many;
     all =
         pushed_ran g v (p.at + 1 + length p.wheres) p.body (Within (code_of p) (number + 1) p.rest) held
-            ∙ (and_none (block_ran g v (calls_ran g v (depth_left p.rest)) p.body held) ∙ sym whole);
+        ∙ (and_none (block_ran g v (calls_ran g v (depth_left p.rest)) p.body held) ∙ sym whole);
   }
   begun_so t p number held indices false stands many whole = record { stands = tt; many = many; all = sym whole }
 
@@ -162,3 +164,9 @@ steps_stay_inside g v t p number did more r rest own held i e = record {
   count = suc i.count;
   leads = inner_more g v i.count i.first i.entry ∙ (ap (λ x. inner_on x (inner_step g v)) i.leads ∙ ap (inner_behind did) e);
 }
+
+-- a statement that comes next is its deeds
+pub statements_inside : StatementsInsideAreTheirDeeds
+statements_inside g v set t p number did at line form rest s i next seen =
+    let so = inside_so g v set t p number did (Next at line form rest) s.own i in
+    statement_is g line form so.0.0.0.2.here.0 s ∙ ap (λ (w : View). outcome_in s (statement_ran g w line form s.own)) seen

@@ -75,7 +75,7 @@ zip-long [] ys long = refl
 zip-long (x ∷ xs) [] long = absurd (omega (arith, long))
 zip-long (x ∷ xs) (y ∷ ys) long = ap suc (zip-long xs ys (omega (arith, long)))
 
-accessed-long : (how : Access) (old words : List ℕ) → length words ≡ length old → length (accessed_words how old words) ≡ length old
+pub accessed-long : (how : Access) (old words : List ℕ) → length words ≡ length old → length (accessed_words how old words) ≡ length old
 accessed-long how old words long = length-map (zip old words) (λ (p : ℕ × ℕ). accessed how p.0 p.1) ∙ zip-long old words long
 
 -- an entry replaced by one of its length
@@ -171,45 +171,49 @@ no-trap : (b : Bool) (kind : TrapKind) → ◌≡◌ {A = Option TrapKind} (if b
 no-trap true kind none = absurd cc
 no-trap false kind none = refl
 
+-- what `put` writes has as many elements as the block
+pub put-long : (g : Setting) (line : ℕ) (bound : List ℕ) (within : Bool) (block : BlockRef) (how : Access) (from : BlockRef) (s : State) (words : List ℕ) → IsSound g → InRange g bound s.own.values → Good g (record { line = line; form = Put block how from; bound = bound; within = within })
+    → created_trap g (Put block how from) s.own ≡ None → IsWhole g s → words_of g s.own from [] ≡ Ok words → length words ≡ length (shared_block s.shared (named g s.own block).class (named g s.own block).block)
+put-long g line bound within block how from s words sound in-range good there whole is =
+    let transfer : Transfer g bound block from Distributed = put-transfer g line bound within block how from good in
+    let at = placed g bound s.own block sound in-range transfer.to (ap (λ k. same_kind k Temp) transfer.is) in
+    let long : length words ≡ block_words g block.array (number_of g s.own block) =
+    source-long g bound s.own from words (array_kind g from.array) sound in-range transfer.source whole.own refl transfer.own is
+    ∙ (ap (λ xs. named_volume g s.own (record { array = block.array; at = xs })) (sym transfer.at) ∙ at.words) in
+    let flag : is_created s.own block.array ≡ true =
+    there-is g s.own block.array transfer.is (neither (is_missing g s.own block.array) false (no-trap (is_missing g s.own block.array || false) NotCreated there)).0 in
+    let old : length (slice_index_or s.shared.distributed (first_of_class g block.array + number_of g s.own block) []) ≡ block_words g block.array (number_of g s.own block) =
+    whole.distributed.words block.array (number_of g s.own block) transfer.is at.below ∙ ap (λ b. words_if b (block_words g block.array (number_of g s.own block))) flag in
+    let c : class_or (class_of_kind (array_kind g block.array)) ≡ class.Distributed = ap (λ k. class_or (class_of_kind k)) transfer.is in
+    long ∙ (sym old ∙ ap (λ k. length (shared_block s.shared k (first_of_class g block.array + number_of g s.own block))) (sym c))
+
+-- so has what `prepare` writes
+pub prepare-long : (g : Setting) (line : ℕ) (bound : List ℕ) (within : Bool) (block : BlockRef) (how : Access) (from : BlockRef) (s : State) (words : List ℕ) → IsSound g → InRange g bound s.own.values → Good g (record { line = line; form = Prepare block how from; bound = bound; within = within })
+    → IsWhole g s → words_of g s.own from [] ≡ Ok words → length words ≡ length (shared_block s.shared (named g s.own block).class (named g s.own block).block)
+prepare-long g line bound within block how from s words sound in-range good whole is =
+    let transfer : Transfer g bound block from Served = prepare-transfer g line bound within block how from good in
+    let at = placed g bound s.own block sound in-range transfer.to (ap (λ k. same_kind k Temp) transfer.is) in
+    let long : length words ≡ block_words g block.array (number_of g s.own block) =
+    source-long g bound s.own from words (array_kind g from.array) sound in-range transfer.source whole.own refl transfer.own is
+    ∙ (ap (λ xs. named_volume g s.own (record { array = block.array; at = xs })) (sym transfer.at) ∙ at.words) in
+    let old : length (slice_index_or s.shared.served (first_of_class g block.array + number_of g s.own block) []) ≡ block_words g block.array (number_of g s.own block) =
+    whole.served.words block.array (number_of g s.own block) transfer.is at.below in
+    let c : class_or (class_of_kind (array_kind g block.array)) ≡ class.Served = ap (λ k. class_or (class_of_kind k)) transfer.is in
+    long ∙ (sym old ∙ ap (λ k. length (shared_block s.shared k (first_of_class g block.array + number_of g s.own block))) (sym c))
+
 -- `put` and `prepare`
 pub put-whole : (g : Setting) (line : ℕ) (bound : List ℕ) (within : Bool) (block : BlockRef) (how : Access) (from : BlockRef) (s : State) → IsSound g → InRange g bound s.own.values → Good g (record { line = line; form = Put block how from; bound = bound; within = within })
     → created_trap g (Put block how from) s.own ≡ None → IsWhole g s → WholeTo g (put_done line (named g s.own block) how s (words_of g s.own from []))
 put-whole g line bound within block how from s sound in-range good there whole = by-words (words_of g s.own from []) refl
   where
-    transfer : Transfer g bound block from Distributed
-    transfer = put-transfer g line bound within block how from good
-
     by-words : (answer : Answer (List ℕ)) → words_of g s.own from [] ≡ answer → WholeTo g (put_done line (named g s.own block) how s answer)
     by-words (Err kind) is = whole
-    by-words (Ok words) is =
-        let at = placed g bound s.own block sound in-range transfer.to (ap (λ k. same_kind k Temp) transfer.is) in
-        let long : length words ≡ block_words g block.array (number_of g s.own block) =
-        source-long g bound s.own from words (array_kind g from.array) sound in-range transfer.source whole.own refl transfer.own is
-        ∙ (ap (λ xs. named_volume g s.own (record { array = block.array; at = xs })) (sym transfer.at) ∙ at.words) in
-        let flag : is_created s.own block.array ≡ true =
-        there-is g s.own block.array transfer.is (neither (is_missing g s.own block.array) false (no-trap (is_missing g s.own block.array || false) NotCreated there)).0 in
-        let old : length (slice_index_or s.shared.distributed (first_of_class g block.array + number_of g s.own block) []) ≡ block_words g block.array (number_of g s.own block) =
-        whole.distributed.words block.array (number_of g s.own block) transfer.is at.below ∙ ap (λ b. words_if b (block_words g block.array (number_of g s.own block))) flag in
-        let c : class_or (class_of_kind (array_kind g block.array)) ≡ class.Distributed = ap (λ k. class_or (class_of_kind k)) transfer.is in
-        stored-whole g line (named g s.own block) how words s whole
-        (long ∙ (sym old ∙ ap (λ k. length (shared_block s.shared k (first_of_class g block.array + number_of g s.own block))) (sym c)))
+    by-words (Ok words) is = stored-whole g line (named g s.own block) how words s whole (put-long g line bound within block how from s words sound in-range good there whole is)
 
 pub prepare-whole : (g : Setting) (line : ℕ) (bound : List ℕ) (within : Bool) (block : BlockRef) (how : Access) (from : BlockRef) (s : State) → IsSound g → InRange g bound s.own.values → Good g (record { line = line; form = Prepare block how from; bound = bound; within = within })
     → IsWhole g s → WholeTo g (put_done line (named g s.own block) how s (words_of g s.own from []))
 prepare-whole g line bound within block how from s sound in-range good whole = by-words (words_of g s.own from []) refl
   where
-    transfer : Transfer g bound block from Served
-    transfer = prepare-transfer g line bound within block how from good
-
     by-words : (answer : Answer (List ℕ)) → words_of g s.own from [] ≡ answer → WholeTo g (put_done line (named g s.own block) how s answer)
     by-words (Err kind) is = whole
-    by-words (Ok words) is =
-        let at = placed g bound s.own block sound in-range transfer.to (ap (λ k. same_kind k Temp) transfer.is) in
-        let long : length words ≡ block_words g block.array (number_of g s.own block) =
-        source-long g bound s.own from words (array_kind g from.array) sound in-range transfer.source whole.own refl transfer.own is
-        ∙ (ap (λ xs. named_volume g s.own (record { array = block.array; at = xs })) (sym transfer.at) ∙ at.words) in
-        let old : length (slice_index_or s.shared.served (first_of_class g block.array + number_of g s.own block) []) ≡ block_words g block.array (number_of g s.own block) =
-        whole.served.words block.array (number_of g s.own block) transfer.is at.below in
-        let c : class_or (class_of_kind (array_kind g block.array)) ≡ class.Served = ap (λ k. class_or (class_of_kind k)) transfer.is in
-        stored-whole g line (named g s.own block) how words s whole
-        (long ∙ (sym old ∙ ap (λ k. length (shared_block s.shared k (first_of_class g block.array + number_of g s.own block))) (sym c)))
+    by-words (Ok words) is = stored-whole g line (named g s.own block) how words s whole (prepare-long g line bound within block how from s words sound in-range good whole is)

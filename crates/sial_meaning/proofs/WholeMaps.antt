@@ -4,15 +4,15 @@ use Rattle.std.specs.FinMap as finite
 use Rattle.sial_syntax.specs.declared.access.Class.TheVariants as class
 use Rattle.sial_syntax.specs.declared.array.ArrayKind.{ArrayKind}
 use Rattle.sial_syntax.specs.declared.array.ArrayKind.TheVariants.{Static, Temp, Local, Distributed, Served}
-use Rattle.sial_meaning.specs.Own.{for_each}
+use Rattle.sial_meaning.specs.Own.{for_each, local_block}
 use Rattle.sial_meaning.specs.Setting.{Setting, array_kind, block_count, block_words, first_of_class}
 use Rattle.sial_meaning.specs.Sound.{IsSound}
 use Rattle.sial_meaning.specs.State.{State, shared_block}
 use Rattle.sial_meaning.specs.Whole.{block_positions, whole_array}
-use Rattle.sial_meaning.specs.WholeStates.{IsWhole, words_if, blocks_in, has_blocks, BlocksOfStatesAreTheMap, TempsOfStatesAreTheMap}
+use Rattle.sial_meaning.specs.WholeStates.{IsWhole, words_if, words_or_none, blocks_in, has_blocks, BlocksOfStatesAreTheMap, LocalsOfStatesAreTheMap, AbsentLocalsAreNotThere, TempsOfStatesAreTheMap}
 use Rattle.sial_meaning.proofs.PairLemmas.{never}
 use Rattle.sial_meaning.proofs.WholeCreated.{each-read}
-use Rattle.sial_meaning.proofs.WholeLemmas.{blocks-are-the-map, held-blocks-are-the-map}
+use Rattle.sial_meaning.proofs.WholeLemmas.{blocks-are-the-map, absent-blocks-are-not-there, held-blocks-are-the-map}
 use Rattle.sial_meaning.proofs.WholeSteps.{reached-states-are-whole}
 use Rattle.sial_meaning.proofs.ControlLemmas.{each-long}
 
@@ -38,6 +38,21 @@ by-kind g s array number Served sound whole is has below =
 
 pub blocks-of-states-are-the-map : BlocksOfStatesAreTheMap
 blocks-of-states-are-the-map g s array number sound reached has below = by-kind g s array number (array_kind g array) sound (reached-states-are-whole g s sound reached) refl has below
+
+-- each allocated block of a local array
+pub locals-of-states-are-the-map : LocalsOfStatesAreTheMap
+locals-of-states-are-the-map g s array number words sound reached is below held =
+    let f : ℕ → List ℕ = λ n. words_or_none (local_block s.own array n) in
+    let here : f number ≡ words = ap words_or_none held in
+    by-row g array number f sound below (ap length here ∙ (reached-states-are-whole g s sound reached).own.locals array number words held)
+    ∙ ap (map Some) (each-read (block_count g array) f number [] below ∙ here)
+
+-- and one that isn't allocated
+pub absent-locals-are-not-there : AbsentLocalsAreNotThere
+absent-locals-are-not-there g s array number sound reached is below none =
+    let f : ℕ → List ℕ = λ n. words_or_none (local_block s.own array n) in
+    let many = each-long (block_count g array) f in
+    absent-blocks-are-not-there g array number (for_each (block_count g array) f) sound many (omega (arith, below, many)) (each-read (block_count g array) f number [] below ∙ ap words_or_none none)
 
 pub temps-of-states-are-the-map : TempsOfStatesAreTheMap
 temps-of-states-are-the-map g s array held sound reached is = held-blocks-are-the-map g array held ((reached-states-are-whole g s sound reached).own.temps array held is)

@@ -1,5 +1,5 @@
 -- Laws along the course: epochs, copies, blocks, and what was passed.
-use Rattle.std.specs.Prelude.{◌≡◌, ℕ, ◌≤◌, List, [], ◌∷◌, ◌==◌, ◌&&◌, if◌then◌else◌}
+use Rattle.std.specs.Prelude.{◌≡◌, ℕ, ◌≤◌, List, [], ◌∷◌, length, ◌==◌, ◌&&◌, if◌then◌else◌}
 use Rattle.std.specs.List.{Contains}
 use Rattle.sial_syntax.specs.declared.access.Class.{Class}
 use Rattle.sial_syntax.specs.Spaces.{same_class}
@@ -9,10 +9,11 @@ use Rattle.sial_meaning.specs.CourseDeeds.{deeds_at, deeds_before}
 use Rattle.sial_meaning.specs.Deeds.{Deed, Reads, Writes, Adds, Traps, touches, written}
 use Rattle.sial_meaning.specs.Next as next
 use Rattle.sial_meaning.specs.Next.{Task, next_of, Asks, Local, Operands, Get, Put, Sync, Collect, asked}
+use Rattle.sial_meaning.specs.NumberStates.{HasNumbers}
 use Rattle.sial_meaning.specs.Passed.{passed}
 use Rattle.sial_meaning.specs.Setting.{Setting}
 use Rattle.sial_meaning.specs.Sound.{IsGrantedSetting, IsSound}
-use Rattle.sial_meaning.specs.State.{State, blocks_of_class, epoch_of}
+use Rattle.sial_meaning.specs.State.{State, blocks_of_class, shared_block, epoch_of}
 use Rattle.sial_meaning.specs.WholeStates.{IsWhole}
 
 -- the state of a point of the course
@@ -96,3 +97,21 @@ SameCountsOnePoint =
 -- each point's state is whole, behind noted traps too
 abbrev pub PointsAreWhole : Type 0
 PointsAreWhole = (g : Setting) → IsSound g → (t : ℕ) → IsWhole g (state_at g t)
+
+-- and its numbers are below 2^64
+abbrev pub PointsHaveNumbers : Type 0
+PointsHaveNumbers = (g : Setting) → IsSound g → (t : ℕ) → HasNumbers (state_at g t)
+
+-- each write of a step has as many elements as its block
+abbrev pub WritesFit : Type 0
+WritesFit =
+    (g : Setting) → IsSound g
+    → (t : ℕ) (touch : Touch) (words : List ℕ) → Contains (deeds_at g t) (Writes touch words)
+    → length words ≡ length (shared_block (state_at g t).shared touch.class touch.block)
+
+-- each write of the present epoch of a class has as many elements as the copy of its block
+abbrev pub EpochWritesFit : Type 0
+EpochWritesFit =
+    (g : Setting) → IsSound g
+    → (t : ℕ) (class : Class) (touch : Touch) (words : List ℕ) → Contains (writes_in class (epoch_at g t class) (deeds_before g t)) (Writes touch words)
+    → length words ≡ length (shared_block (state_at g t).copies touch.class touch.block)

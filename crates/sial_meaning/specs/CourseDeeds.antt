@@ -9,7 +9,7 @@ use Rattle.sial_meaning.specs.Course.{course}
 use Rattle.sial_meaning.specs.Deeds.{Deed}
 use Rattle.sial_meaning.specs.Meaning.{taken_up}
 use Rattle.sial_meaning.specs.Own.{unset}
-use Rattle.sial_meaning.specs.Ran.{Ran, Held, Broke, view_of, deeds_of, statement_ran, iteration_ran}
+use Rattle.sial_meaning.specs.Ran.{Ran, Through, Broke, view_of, deeds_of, statement_ran, iteration_ran}
 use Rattle.sial_meaning.specs.Rest.{Rest, Next}
 use Rattle.sial_meaning.specs.Setting.{Setting}
 use Rattle.sial_meaning.specs.State.{State}
@@ -25,7 +25,7 @@ pardo_deeds g s indices wheres body rest = flat_map (iteration_deeds g s indices
 
 -- the deeds of a statement outside of pardos; one that traps isn't passed
 abbrev pub deeds_if_passed : Ran → List Deed
-deeds_if_passed (Held before own) = before
+deeds_if_passed (Through before own) = before
 deeds_if_passed (Broke before trap own) = []
 
 -- the deeds of the step from this rest and state

@@ -69,9 +69,9 @@ ScalingsByName =
     (spaces : Spaces) (op : Op) (n : ℕ) (values to from old words tuple : List ℕ)
     → has_twice to ≡ false → all_in from to ≡ true → IsTupleOf (lengths (map (extent spaces values) to)) tuple
     → (word_at (after_assignment spaces op (named_block spaces values to old) (Joined (Plain n) Times (Shown (named_block spaces values from words)))) tuple
-      ≡ combined op (word_at (named_block spaces values to old) tuple) (times n (word_under to tuple (named_block spaces values from words))))
+    ≡ combined op (word_at (named_block spaces values to old) tuple) (times n (word_under to tuple (named_block spaces values from words))))
     × (word_at (after_assignment spaces op (named_block spaces values to old) (Joined (Shown (named_block spaces values from words)) Times (Plain n))) tuple
-      ≡ combined op (word_at (named_block spaces values to old) tuple) (times (word_under to tuple (named_block spaces values from words)) n))
+    ≡ combined op (word_at (named_block spaces values to old) tuple) (times (word_under to tuple (named_block spaces values from words)) n))
 
 -- a number alone fills
 abbrev pub FillsEverywhere : Type 0
@@ -137,8 +137,8 @@ ScalingsReadBack =
     (g : Setting) (to from : BlockRef) (by : Operand) (op : Op) (n : ℕ) (values old words tuple : List ℕ)
     → IsSound g → is_block by ≡ false → IsOffset g values to tuple
     → (Assigns g.program to op (Two by Times (operand.Block from))
-      → word_at (assigned_block g values to old op (Joined (Plain n) Times (Shown (shown g values from words)))) tuple
-      ≡ combined op (word_at (shown g values to old) tuple) (times n (word_under to.at tuple (shown g values from words))))
+    → word_at (assigned_block g values to old op (Joined (Plain n) Times (Shown (shown g values from words)))) tuple
+    ≡ combined op (word_at (shown g values to old) tuple) (times n (word_under to.at tuple (shown g values from words))))
     × (Assigns g.program to op (Two (operand.Block from) Times by)
-      → word_at (assigned_block g values to old op (Joined (Shown (shown g values from words)) Times (Plain n))) tuple
-      ≡ combined op (word_at (shown g values to old) tuple) (times (word_under to.at tuple (shown g values from words)) n))
+    → word_at (assigned_block g values to old op (Joined (Shown (shown g values from words)) Times (Plain n))) tuple
+    ≡ combined op (word_at (shown g values to old) tuple) (times (word_under to.at tuple (shown g values from words)) n))

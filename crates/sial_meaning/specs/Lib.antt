@@ -27,6 +27,8 @@ pub mod ToComeLaws
 pub mod Passed
 pub mod AlongLaws
 pub mod Resets
+pub mod Closed
+pub mod ClosedLaws
 pub mod Laws
 pub mod EpochLaws
 pub mod AcceptedLaws

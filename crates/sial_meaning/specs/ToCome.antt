@@ -7,7 +7,7 @@ use Rattle.sial_meaning.specs.Deeds.{Deed}
 use Rattle.sial_meaning.specs.Next as next
 use Rattle.sial_meaning.specs.Next.{Task, next_of}
 use Rattle.sial_meaning.specs.Own.{Own, value_of, bound, with_values}
-use Rattle.sial_meaning.specs.Ran.{View, Ran, Held, Broke, and_so, ran_over, ran_then, statement_ran, block_ran, form_ran, calls_ran}
+use Rattle.sial_meaning.specs.Ran.{View, Ran, Through, Broke, and_so, ran_over, ran_then, statement_ran, block_ran, form_ran, calls_ran}
 use Rattle.sial_meaning.specs.Rest.{LoopAt, Rest, Over, Next, Turn, Join, Back, Within}
 use Rattle.sial_meaning.specs.Setting.{Setting}
 
@@ -17,7 +17,7 @@ numbers_left loop last own = numbers_from (value_of own loop.index + 1) (last - 
 
 -- the fold of the rest of an iteration's work, up to the end of the pardo's body
 abbrev pub rest_ran : Setting → View → Rest → Own → Ran
-rest_ran g view (Over at) own = Held [] own
+rest_ran g view (Over at) own = Through [] own
 rest_ran g view (Next at line form rest) own = and_so (form_ran g view (calls_ran g view (depth_left rest)) line form own) (rest_ran g view rest)
 rest_ran g view (Turn loop last rest) own =
     and_so
@@ -25,7 +25,7 @@ rest_ran g view (Turn loop last rest) own =
     (rest_ran g view rest)
 rest_ran g view (Join at rest) own = rest_ran g view rest own
 rest_ran g view (Back at values rest) own = rest_ran g view rest (with_values values own)
-rest_ran g view (Within pardo number rest) own = Held [] own
+rest_ran g view (Within pardo number rest) own = Through [] own
 
 -- where steps inside an iteration lead, with what they did: on to other work, to a trap, or nowhere at the end of the body
 pub data Inner : Type 0 where
@@ -40,7 +40,7 @@ led_on own (Halts trap) = Out [] trap own
 
 -- a statement inside an iteration
 abbrev pub done_on : Ran → Rest → Inner
-done_on (Held did own) rest = On did rest own
+done_on (Through did own) rest = On did rest own
 done_on (Broke did trap own) rest = Out did trap own
 
 -- one step inside an iteration by what comes next; no pardo stands within one

@@ -3,17 +3,20 @@ use Rattle.std.specs.Prelude.{◌≡◌, ℕ, List, [], ◌++◌}
 use Rattle.sial_syntax.specs.declared.condition.Cond.{Cond}
 use Rattle.sial_syntax.specs.Boxes.{tuple_at}
 use Rattle.sial_syntax.specs.Spaces.{box_of}
-use Rattle.sial_syntax.specs.Tree.{Block, Pardo}
+use Rattle.sial_syntax.specs.Tree.{Block, Plain, Pardo}
 use Rattle.sial_meaning.specs.Control.{Led, Goes, Halts, depth_left, taken}
 use Rattle.sial_meaning.specs.Control as control
 use Rattle.sial_meaning.specs.Course.{course}
 use Rattle.sial_meaning.specs.Deeds.{Deed}
 use Rattle.sial_meaning.specs.Meaning.{taken_up}
+use Rattle.sial_meaning.specs.Next.{Statement, next_of}
 use Rattle.sial_meaning.specs.Own.{Own, unset}
-use Rattle.sial_meaning.specs.Ran.{View, Ran, Broke, behind, iteration_ran}
+use Rattle.sial_meaning.specs.Ran.{View, view_of, Ran, Broke, outcome_in, behind, statement_ran, iteration_ran}
 use Rattle.sial_meaning.specs.Rest.{PardoAt, Rest, Next, Within}
 use Rattle.sial_meaning.specs.Setting.{Setting}
 use Rattle.sial_meaning.specs.Sound.{IsGrantedSetting}
+use Rattle.sial_meaning.specs.State.{State}
+use Rattle.sial_meaning.specs.Statement.{Copied, statement}
 use Rattle.sial_meaning.specs.ToCome.{rest_ran, Inner, On, Out, AtEnd, inner_step, inner_steps}
 
 -- a pardo that a point of the course begins with
@@ -85,3 +88,11 @@ abbrev pub StepsStayInside : Type 0
 StepsStayInside =
     (g : Setting) (view : View) (t : ℕ) (p : PardoOf) (number : ℕ) (did more : List Deed) (r rest : Rest) (own held : Own)
     → IsInside g view t p number did r own → inner_step g view r own ≡ On more rest held → IsInside g view t p number (did ++ more) rest held
+
+-- a statement that comes next there is its deeds, in each state that an iteration sees so
+abbrev pub StatementsInsideAreTheirDeeds : Type 0
+StatementsInsideAreTheirDeeds =
+    (g : Setting) (view : View) → IsGrantedSetting g
+    → (t : ℕ) (p : PardoOf) (number : ℕ) (did : List Deed) (at line : ℕ) (form : Plain) (rest : Rest) (s : State)
+    → IsInside g view t p number did (Next at line form rest) s.own → next_of (Next at line form rest) ≡ Statement line form rest → view_of s ≡ view
+    → statement Copied g line form s ≡ outcome_in s (statement_ran g view line form s.own)

@@ -1,5 +1,5 @@
 -- States whose arrays are whole: every block that is there has as many elements as positions.
-use Rattle.std.specs.Prelude.{◌≡◌, ℕ, ◌+◌, ◌<◌, List, [], map, length, Bool, true, false, slice_index_or, Some}
+use Rattle.std.specs.Prelude.{◌≡◌, ℕ, ◌+◌, ◌<◌, List, [], map, length, Bool, true, false, slice_index_or, Option, Some, None}
 use Rattle.std.specs.FinMap as finite
 use Rattle.sial_syntax.specs.declared.access.Class.TheVariants as class
 use Rattle.sial_syntax.specs.declared.array.ArrayKind.{ArrayKind}
@@ -75,11 +75,16 @@ OutcomesAreReached = (reading : Reading) (g : Setting) → IsSound g → IsReach
 abbrev pub ReachedStatesAreWhole : Type 0
 ReachedStatesAreWhole = (g : Setting) (s : State) → IsSound g → IsReached g s → IsWhole g s
 
--- the blocks of an array that a state has: of a static, served or distributed one
+-- a block that may not be there, as the empty list where it isn't
+abbrev pub words_or_none : Option (List ℕ) → List ℕ
+words_or_none None = []
+words_or_none (Some words) = words
+
+-- the blocks of an array that a state has, those that aren't there as empty lists; a temp's stands elsewhere
 abbrev pub blocks_in : Setting → State → (array : ℕ) → ArrayKind → List (List ℕ)
 blocks_in g s array Static = slice_index_or s.own.statics array []
 blocks_in g s array Temp = []
-blocks_in g s array Local = []
+blocks_in g s array Local = for_each (block_count g array) (λ n. words_or_none (local_block s.own array n))
 blocks_in g s array Distributed = for_each (block_count g array) (λ n. shared_block s.shared class.Distributed (first_of_class g array + n))
 blocks_in g s array Served = for_each (block_count g array) (λ n. shared_block s.shared class.Served (first_of_class g array + n))
 
@@ -98,6 +103,20 @@ BlocksOfStatesAreTheMap =
     → IsSound g → IsReached g s → has_blocks s array (array_kind g array) ≡ true → number < block_count g array
     → map (finite.get (whole_array g array (blocks_in g s array (array_kind g array)))) (block_positions g array number)
     ≡ map Some (slice_index_or (blocks_in g s array (array_kind g array)) number [])
+
+-- so is the list of each block of a local array that is allocated
+abbrev pub LocalsOfStatesAreTheMap : Type 0
+LocalsOfStatesAreTheMap =
+    (g : Setting) (s : State) (array number : ℕ) (words : List ℕ)
+    → IsSound g → IsReached g s → array_kind g array ≡ Local → number < block_count g array → local_block s.own array number ≡ Some words
+    → map (finite.get (whole_array g array (blocks_in g s array Local))) (block_positions g array number) ≡ map Some words
+
+-- at the positions of one that isn't the map has nothing
+abbrev pub AbsentLocalsAreNotThere : Type 0
+AbsentLocalsAreNotThere =
+    (g : Setting) (s : State) (array number : ℕ)
+    → IsSound g → IsReached g s → array_kind g array ≡ Local → number < block_count g array → local_block s.own array number ≡ None
+    → map (finite.get (whole_array g array (blocks_in g s array Local))) (block_positions g array number) ≡ map (λ position. None) (block_positions g array number)
 
 -- and so is the list of the block that a temp holds
 abbrev pub TempsOfStatesAreTheMap : Type 0

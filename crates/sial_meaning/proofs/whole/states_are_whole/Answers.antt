@@ -1,6 +1,6 @@
-use Rattle.sial_meaning.proofs.WholeMaps.{blocks-of-states-are-the-map, temps-of-states-are-the-map}
+use Rattle.sial_meaning.proofs.WholeMaps.{blocks-of-states-are-the-map, locals-of-states-are-the-map, absent-locals-are-not-there, temps-of-states-are-the-map}
 use Rattle.sial_meaning.proofs.WholeSteps.{reached-states-are-whole, outcomes-are-reached}
 use Rattle.sial_meaning.proofs.whole.states_are_whole.Goals as goal
 
 pub returns : goal.returns
-returns c = record { whole = reached-states-are-whole; outcome = outcomes-are-reached; block = blocks-of-states-are-the-map; held = temps-of-states-are-the-map }
+returns c = record { whole = reached-states-are-whole; outcome = outcomes-are-reached; block = blocks-of-states-are-the-map; local = locals-of-states-are-the-map; absent = absent-locals-are-not-there; held = temps-of-states-are-the-map }

@@ -1,5 +1,6 @@
+use Rattle.sial_meaning.proofs.AlongNumbers.{points-have-numbers}
 use Rattle.sial_meaning.proofs.AlongWhole.{points-are-whole}
 use Rattle.sial_meaning.proofs.laws.along.points_are_whole.Goals as goal
 
 pub returns : goal.returns
-returns c = points-are-whole
+returns c = record { whole = points-are-whole; numbers = points-have-numbers }
