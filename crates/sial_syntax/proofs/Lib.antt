@@ -11,3 +11,4 @@ pub mod ReachedByChains
 pub mod RecursionByChains
 pub mod DepthByCalls
 pub mod SidesByCalls
+pub mod FirstIsFirst

@@ -16,3 +16,4 @@ pub mod Resolved
 pub mod BoxLaws
 pub mod KindLaws
 pub mod CallLaws
+pub mod FirstLaws

@@ -1,7 +1,8 @@
-//! What the definitions of boxes, kinds and calls say: laws that proofs above cite, with nothing to run.
+//! What the definitions of boxes, kinds, calls and faults say: laws that proofs above cite, with nothing to run.
 
 ghost use Rattle.sial_syntax.specs.BoxLaws.{NumbersOfRank, NumbersWithin, PlaceOfTuple, PlaceWithin, RankOfNumbers, RankWithin, TupleOfPlace, TuplesCounted, TuplesInOrder, TupleWithin};
 ghost use Rattle.sial_syntax.specs.CallLaws.{DepthByCalls, InnerByCalls, OuterByCalls, ReachedByChains, RecursionByChains};
+ghost use Rattle.sial_syntax.specs.FirstLaws.{FirstIsFirst, NoneWithoutFaults};
 ghost use Rattle.sial_syntax.specs.KindLaws.{KindOfSegments, KindOfSubindex};
 
 /// The place of a tuple in its box, and the tuple at a place.
@@ -39,4 +40,10 @@ pub fn chains_of_calls()
     ensures depth { DepthByCalls }
     ensures outer { OuterByCalls }
     ensures inner { InnerByCalls }
+{}
+
+/// The first fault of some.
+pub fn first_of_faults()
+    ensures first { FirstIsFirst }
+    ensures none { NoneWithoutFaults }
 {}
