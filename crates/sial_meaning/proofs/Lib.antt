@@ -16,6 +16,7 @@ pub mod DeedOrderLemmas
 pub mod ToComeStands
 pub mod ToComeLemmas
 pub mod ToComeWalk
+pub mod ToComeEnd
 pub mod AlongSteps
 pub mod AlongLemmas
 pub mod AlongDeeds

@@ -46,10 +46,10 @@ module _ (g : Setting) (set : IsGrantedSetting g) (v : View) where
   steps_took (suc n) r own stands many = took_on r own (inner_step g v r own) (inner_steps g v n) (step_took g set v r own stands many) (steps_took n)
 
   -- how an iteration begins
-  record BegunSo (t : ℕ) (p : PardoOf) (number : ℕ) (r : Rest) (own : Own) : Type 0 where
-    stands : RestIn g set r
-    many : AsMany g set own
-    all : rest_ran g v r own ≡ whole_iteration g v t p number
+  pub record BegunSo (t : ℕ) (p : PardoOf) (number : ℕ) (r : Rest) (own : Own) : Type 0 where
+    pub stands : RestIn g set r
+    pub many : AsMany g set own
+    pub all : rest_ran g v r own ≡ whole_iteration g v t p number
 
   -- an iteration begins so where control goes on
   abbrev BegunAt : (t : ℕ) → PardoOf → (number : ℕ) → Led → Type 0
@@ -70,7 +70,7 @@ module _ (g : Setting) (set : IsGrantedSetting g) (v : View) where
   begun_so t p number held indices false stands many whole = record { stands = tt; many = many; all = sym whole }
 
   -- an iteration of a pardo of the course
-  begins_right : (t : ℕ) (p : PardoOf) (number : ℕ) (r : Rest) (own : Own) → Begins g t p number r own → BegunSo t p number r own
+  pub begins_right : (t : ℕ) (p : PardoOf) (number : ℕ) (r : Rest) (own : Own) → Begins g t p number r own → BegunSo t p number r own
   begins_right t p number r own b =
       let f = course_fit g set t in
       let stands = (begins_so g set (course g t).work f p.indices p.wheres p.body (p.at, p.line, p.rest, b.0)).0 in

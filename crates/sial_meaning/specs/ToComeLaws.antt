@@ -1,5 +1,5 @@
 -- Laws of what is still to come of an iteration: a step takes its first part off.
-use Rattle.std.specs.Prelude.{◌≡◌, ℕ, List, [], ◌++◌}
+use Rattle.std.specs.Prelude.{◌≡◌, ℕ, ◌+◌, List, [], ◌++◌}
 use Rattle.sial_syntax.specs.declared.condition.Cond.{Cond}
 use Rattle.sial_syntax.specs.Boxes.{tuple_at}
 use Rattle.sial_syntax.specs.Spaces.{box_of}
@@ -17,7 +17,7 @@ use Rattle.sial_meaning.specs.Setting.{Setting}
 use Rattle.sial_meaning.specs.Sound.{IsGrantedSetting}
 use Rattle.sial_meaning.specs.State.{State}
 use Rattle.sial_meaning.specs.Statement.{Copied, statement}
-use Rattle.sial_meaning.specs.ToCome.{rest_ran, Inner, On, Out, AtEnd, inner_step, inner_steps}
+use Rattle.sial_meaning.specs.ToCome.{rest_ran, Inner, On, Out, AtEnd, done_on, inner_step, inner_steps}
 
 -- a pardo that a point of the course begins with
 pub record PardoOf : Type 0 where
@@ -96,3 +96,10 @@ StatementsInsideAreTheirDeeds =
     → (t : ℕ) (p : PardoOf) (number : ℕ) (did : List Deed) (at line : ℕ) (form : Plain) (rest : Rest) (s : State)
     → IsInside g view t p number did (Next at line form rest) s.own → next_of (Next at line form rest) ≡ Statement line form rest → view_of s ≡ view
     → statement Copied g line form s ≡ outcome_in s (statement_ran g view line form s.own)
+
+-- the steps of an iteration come to the end of the pardo's body with all of it done, or to its trap
+abbrev pub IterationsEnd : Type 0
+IterationsEnd =
+    (g : Setting) (view : View) → IsGrantedSetting g
+    → (t : ℕ) (p : PardoOf) (number : ℕ) (r : Rest) (own : Own) → Begins g t p number r own
+    → (count : ℕ) × (inner_steps g view count r own ≡ done_on (whole_iteration g view t p number) (Within (code_of p) (number + 1) p.rest))

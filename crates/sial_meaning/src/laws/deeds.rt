@@ -2,7 +2,7 @@
 
 ghost use Rattle.sial_meaning.specs.DeedLaws.{CoursesAreTheirDeeds, IterationsAreTheirDeeds, PardosAreTheirDeeds};
 ghost use Rattle.sial_meaning.specs.DeedSums.{AddsComeToTheSum, MaxesByCounts, MaxesComeToTheGreatest, OneStoreIsItsValue, OrderDoesNotMatter, OtherBlocksStay};
-ghost use Rattle.sial_meaning.specs.ToComeLaws.{AllIsToCome, BeginningsAreInside, DoneAndToCome, StatementsInsideAreTheirDeeds, StepsStayInside, StepsTakeTheFirstPart};
+ghost use Rattle.sial_meaning.specs.ToComeLaws.{AllIsToCome, BeginningsAreInside, DoneAndToCome, IterationsEnd, StatementsInsideAreTheirDeeds, StepsStayInside, StepsTakeTheFirstPart};
 
 /// The fold over an iteration, a pardo of the course, and the log of each point are the deeds applied in order.
 pub fn iterations_are_their_deeds()
@@ -26,6 +26,7 @@ pub fn steps_take_the_first_part_off()
     ensures begins { AllIsToCome }
     ensures step { StepsTakeTheFirstPart }
     ensures together { DoneAndToCome }
+    ensures ends { IterationsEnd }
     ensures inside { BeginningsAreInside }
     ensures on { StepsStayInside }
     ensures statement { StatementsInsideAreTheirDeeds }
