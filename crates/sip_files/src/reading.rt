@@ -1,6 +1,7 @@
 //! A stream, read whole.
 
 ghost use Rattle.std.specs.Prelude.{◌≡◌, ◌≢◌, ◌<◌, ◌≤◌, [], length, OnOk, IfSome, IsErrOf};
+ghost use Rattle.std.specs.IoError.{error_kind};
 ghost use Rattle.sip_files.specs.Files.{IsPrefix};
 
 use crate::fault::LoadFault;
@@ -28,13 +29,16 @@ pub fn read_whole<R: Read + Drop>(stream: R, into: &mut Vec<u8>, most: u64) -> R
     }
 }
 
-/// Why a stream couldn't be read or opened.
+/// Why a stream couldn't be read or opened: for want of memory, or a failure that counts.
 pub fn fault_of(error: &io::Error) -> LoadFault
+    ensures memory { error_kind error.now ≡ ErrorKind.OutOfMemory → result ≡ LoadFault.OutOfMemory }
+    ensures other { error_kind error.now ≢ ErrorKind.OutOfMemory → result ≡ LoadFault.Failed }
     ensures long { result ≢ LoadFault.TooLong }
     ensures missing { result ≢ LoadFault.Missing }
 {
-    match error.kind() {
-        ErrorKind::OutOfMemory => LoadFault::OutOfMemory,
-        _ => LoadFault::Failed,
+    if error.kind() == ErrorKind::OutOfMemory {
+        LoadFault::OutOfMemory
+    } else {
+        LoadFault::Failed
     }
 }
