@@ -1,8 +1,10 @@
-//! Tests of block memory by its public calls: pools, the cache's order, stores and messages in flight.
+//! Tests of block memory by its public calls: pools, the cache's order, marks, stores and messages in flight.
 #![tactic(auto)]
 
 #[cfg(test)]
 mod cache;
+#[cfg(test)]
+mod marks;
 #[cfg(test)]
 mod net;
 #[cfg(test)]
