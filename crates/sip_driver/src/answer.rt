@@ -1,7 +1,7 @@
 //! What a run of the first profile came to.
 
 /// How a run ended, before its line is told and its status given.
-#[derive(Clone, Copy, Debug, PartialEq, Eq)]
+#[derive(Clone, Copy)]
 pub enum Answer {
     /// The program ran to its end.
     Done,

@@ -7,7 +7,7 @@ use sip_files::Failed;
 use std::alloc::AllocError;
 
 /// Why a run didn't come to its end.
-#[derive(Clone, Copy, Debug, PartialEq, Eq)]
+#[derive(Clone, Copy)]
 pub enum RunFault {
     /// The output took not all.
     NotWritten,

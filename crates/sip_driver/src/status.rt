@@ -1,7 +1,7 @@
 //! The statuses that the program ends with, each with its one line.
 
 /// The exit status of a call.
-#[derive(Clone, Copy, Debug, PartialEq, Eq)]
+#[derive(Clone, Copy)]
 pub struct Status(pub u8);
 
 impl Status {
