@@ -35,7 +35,7 @@ not_empty (piece.Token Quoted) after is = is
 not_empty (piece.Token Sign) after is = is.0
 not_empty (piece.Token LineEnd) after is = is
 
-has_bytes : (kind : PieceKind) (len : ℕ) (bytes : List ℕ) → IsPiece kind (take len bytes) (drop len bytes) → 0 < len
+pub has_bytes : (kind : PieceKind) (len : ℕ) (bytes : List ℕ) → IsPiece kind (take len bytes) (drop len bytes) → 0 < len
 has_bytes kind zero bytes is = absurd (not_empty kind bytes is)
 has_bytes kind (suc n) bytes is = omega arith
 

@@ -10,3 +10,7 @@ pub mod OperandsAgain
 pub mod StatementsAgain
 pub mod ProgramAgain
 pub mod TextLemmas
+pub mod ProperOperands
+pub mod ProperBodies
+pub mod ProperPrograms
+pub mod WordsSound

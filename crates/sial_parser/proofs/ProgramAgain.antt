@@ -40,21 +40,21 @@ bound_again _ _ l ws IsBound.number = refl
 bound_again _ _ l ws IsBound.named = refl
 
 -- how many declarations there are
-abbrev total : Declared → ℕ
+abbrev pub total : Declared → ℕ
 total d = length d.indices + (length d.arrays + length d.scalars)
 
 -- no more of each kind than in what follows
-record Below (d e : Declared) : Type 0 where
+pub record Below (d e : Declared) : Type 0 where
   pub indices : length d.indices ≤ length e.indices
   pub arrays : length d.arrays ≤ length e.arrays
   pub scalars : length d.scalars ≤ length e.scalars
 
 -- one more declaration
-record OneMore (d e : Declared) : Type 0 where
+pub record OneMore (d e : Declared) : Type 0 where
   pub below : Below d e
   pub one : total d + 1 ≡ total e
 
-one_more : (d e : Declared) (ws rest : List Word) → Declares d e ws rest → OneMore d e
+pub one_more : (d e : Declared) (ws rest : List Word) → Declares d e ws rest → OneMore d e
 one_more d _ _ _ (Declares.segments {of = of} {name = name} {lo = lo} {hi = hi} {l = l} is free is_lo is_hi) =
     let k = length-append d.indices (record { name = name; line = l; range = range.Segments of lo hi } ∷ []) in
     record { below = record { indices = omega (arith, k); arrays = omega arith; scalars = omega arith }; one = omega (arith, k) }
@@ -68,7 +68,7 @@ one_more d _ _ _ (Declares.array {of = of} {name = name} {is = is} {l = l} kind 
     let k = length-append d.arrays (record { name = name; line = l; kind = of; dims = is } ∷ []) in
     record { below = record { indices = omega arith; arrays = omega (arith, k); scalars = omega arith }; one = omega (arith, k) }
 
-all_below : (d e : Declared) (ws rest : List Word) → AreDeclarations d e ws rest → Below d e
+pub all_below : (d e : Declared) (ws rest : List Word) → AreDeclarations d e ws rest → Below d e
 all_below _ _ _ _ (AreDeclarations.none e) = record { indices = omega arith; arrays = omega arith; scalars = omega arith }
 all_below _ _ _ _ (AreDeclarations.more {d = d} {e = e} {f = f} {ws = ws} {between = between} {rest = rest} one others) =
     let first = one_more d e ws between one in

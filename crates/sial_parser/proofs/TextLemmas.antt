@@ -4,6 +4,7 @@ use Rattle.sial_lexer.proofs.WholeLemmas.{tokens_found, tokens_read}
 use Rattle.sial_lexer.specs.Reading.{lex_of}
 use Rattle.sial_lexer.specs.declared.fault.LexFault.{LexFault}
 use Rattle.sial_lexer.specs.declared.token.Token.{Token}
+use Rattle.sial_syntax.specs.Proper.{IsProper}
 use Rattle.sial_syntax.specs.Tree.{Tree}
 use Rattle.sial_parser.specs.Grammar.{IsProgram}
 use Rattle.sial_parser.specs.Parsing.{read_program, last_fault, after_strict, program_of}
@@ -13,7 +14,9 @@ use Rattle.sial_parser.specs.declared.fault.ParseFault.{ParseFault}
 use Rattle.sial_parser.specs.declared.word.Word.{Word}
 use Rattle.sial_parser.proofs.ProgramAgain.{program_again}
 use Rattle.sial_parser.proofs.ProgramSound.{program_right}
+use Rattle.sial_parser.proofs.ProperPrograms.{program_proper}
 use Rattle.sial_parser.proofs.Rights.{Good}
+use Rattle.sial_parser.proofs.WordsSound.{words_sound}
 
 no_tree : (fault : ParseFault) (r : Result Tree ParseFault) (p : Tree) → last_fault fault r ≡ Ok p → ⊥
 no_tree fault (Ok q) p e = absurd cc
@@ -46,3 +49,7 @@ text_read text p h = ap (parse_tokens text) (tokens_read text h.tokens h.are_tok
 -- a text is that of one tree
 pub one_tree : (text : List ℕ) (p q : Tree) → IsTextOf text p → IsTextOf text q → p ≡ q
 one_tree text p q h g = let e : ◌≡◌ {A = Result Tree ParseFault} (Ok p) (Ok q) = sym (text_read text p h) ∙ text_read text q g in cc
+
+-- the tree of a text is proper
+pub proper_tree : (text : List ℕ) (p : Tree) → IsTextOf text p → IsProper p
+proper_tree text p h = program_proper p (words_of text h.tokens) (words_sound text h.tokens h.are_tokens) h.program

@@ -4,3 +4,4 @@ pub mod Words
 pub mod Parsing
 pub mod Whole
 pub mod Laws
+pub mod Sound
