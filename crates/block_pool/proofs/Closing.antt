@@ -2,7 +2,7 @@
 use Rattle.std.proofs.Common.{◌≡◌, ◌≢◌, ℕ, List, [], ◌∷◌, ◌++◌, refl, ◌∙◌, arith, Option, Some, None}
 use Rattle.std.specs.Prelude.{IfNone}
 use Rattle.std.specs.Option.{ForSome}
-use Rattle.block_pool.specs.declared.state.State.TheVariants.{Free, Own}
+use Rattle.block_pool.specs.declared.state.State.TheVariants.{Free, Owned}
 use Rattle.block_pool.specs.declared.state.State.{State}
 use Rattle.block_pool.specs.Memory.{Memory, words_at, names}
 use Rattle.block_pool.specs.Changes.{Stands, Writes}
@@ -51,7 +51,7 @@ module _ (p p1 : Memory) (s0 : State) where
 
   -- owned leases of others, where another kind was given back
   pub frames_beside : (o : Option ℕ) → ForSome o (λ slot. Writes p p1 slot Free (words_at p.words slot)) → IfNone o (p1 ≡ p) → ForSome o (Stands p s0)
-      → s0 ≢ Own → (xs : List (Option ℕ)) → Frames p p1 xs xs
+      → s0 ≢ Owned → (xs : List (Option ℕ)) → Frames p p1 xs xs
   frames_beside (Some t) gave none st ne xs = frames_other (gave t refl).changes xs (st t refl) ne
   frames_beside None gave none st ne xs = rw none (frames_refl xs)
 

@@ -3,7 +3,7 @@ use Rattle.std.proofs.Common.{◌≡◌, ◌≢◌, ℕ, ◌+◌, ◌<◌, List,
 use Rattle.std.proofs.lemmas.List.{get_or_push, get_or_append_left, get_or-set_same, get_or-set_other}
 use Rattle.std.proofs.lemmas.Bool.{cases_eq}
 use Rattle.block_pool.specs.declared.state.State.{State}
-use Rattle.block_pool.specs.declared.state.State.TheVariants.{Free, Own, Await, Keep, Send, Lift}
+use Rattle.block_pool.specs.declared.state.State.TheVariants.{Free, Owned, Awaiting, Cached, Sending, Lifted}
 use Rattle.block_pool.specs.Memory.{Memory, words_at, state_at, names, one_if}
 use Rattle.block_pool.specs.Changes.{Changes, Stands}
 use Rattle.block_pool.specs.Standing.{Holds, Keeps, StandsIn, NoShared, Frames, FramesAll, lease_at, named_count}
@@ -13,7 +13,7 @@ use Rattle.block_pool.proofs.Leases.{holds_along, same_reading, others, lease_wi
 -- a slot of another kind, or of an owned list, changes
 module _ {p p1 : Memory} {t : ℕ} {s1 : State} {w : List ℕ} (ch : Changes p p1 t s1 w) (xs : List (Option ℕ)) where
   -- a slot of another kind
-  pub frames_other : {s0 : State} → Stands p s0 t → s0 ≢ Own → Frames p p1 xs xs
+  pub frames_other : {s0 : State} → Stands p s0 t → s0 ≢ Owned → Frames p p1 xs xs
   frames_other st ne = record { others_stay = λ zs ws apart k. (others ch st ne k, apart) }
 
   -- a slot of the list itself
@@ -90,16 +90,16 @@ named_count-push_none p class (None ∷ xs) = named_count-push_none p class xs
 named_count-push_none p class (Some x ∷ xs) = ap (λ n. one_if (names p class x) + n) (named_count-push_none p class xs)
 
 -- a slot of an owned list was written or given back
-pub frames_all : {p p1 : Memory} {t : ℕ} {s1 : State} {w : List ℕ} → Changes p p1 t s1 w → (xs : List (Option ℕ)) (i : ℕ) → lease_at xs i ≡ Some t → Stands p Own t → FramesAll p p1 xs
+pub frames_all : {p p1 : Memory} {t : ℕ} {s1 : State} {w : List ℕ} → Changes p p1 t s1 w → (xs : List (Option ℕ)) (i : ℕ) → lease_at xs i ≡ Some t → Stands p Owned t → FramesAll p p1 xs
 frames_all {p} {p1} {t} {s1} {w} ch xs i here st = record { all_stay = λ s zs ws taken apart k. by_state s zs ws taken apart k }
   where
-    by_state : (s : State) (zs : List (Option ℕ)) (ws : List (Option (List ℕ))) → s ≢ Free → (s ≡ Own → NoShared xs zs) → Keeps p s zs ws → Keeps p1 s zs ws
+    by_state : (s : State) (zs : List (Option ℕ)) (ws : List (Option (List ℕ))) → s ≢ Free → (s ≡ Owned → NoShared xs zs) → Keeps p s zs ws → Keeps p1 s zs ws
     by_state Free zs ws taken apart k = absurd (taken refl)
-    by_state Own zs ws taken apart k = ((frames_own ch xs i here).others_stay zs ws (apart refl) k).0
-    by_state Await zs ws taken apart k = others ch st (λ e. absurd cc) k
-    by_state Keep zs ws taken apart k = others ch st (λ e. absurd cc) k
-    by_state Send zs ws taken apart k = others ch st (λ e. absurd cc) k
-    by_state Lift zs ws taken apart k = others ch st (λ e. absurd cc) k
+    by_state Owned zs ws taken apart k = ((frames_own ch xs i here).others_stay zs ws (apart refl) k).0
+    by_state Awaiting zs ws taken apart k = others ch st (λ e. absurd cc) k
+    by_state Cached zs ws taken apart k = others ch st (λ e. absurd cc) k
+    by_state Sending zs ws taken apart k = others ch st (λ e. absurd cc) k
+    by_state Lifted zs ws taken apart k = others ch st (λ e. absurd cc) k
 
 -- a free slot was taken: nobody held it
 pub frames_all_free : {p p1 : Memory} {t : ℕ} {s1 : State} {w : List ℕ} → Changes p p1 t s1 w → (xs : List (Option ℕ)) → Stands p Free t → FramesAll p p1 xs
@@ -122,7 +122,7 @@ frames_placed {p} {p1} {t} ch st xs i within = record {
       differ = λ j l slot a b. elim (cases_eq j i) as (λ _. ⊥) [
         | inl z ↦ (
             let same : slot ≡ t = cc (ap (lease_at (set xs i (Some t))) z, get_or-set_same xs i (Some t) None within, a) in
-            let taken : Own ≡ Free = sym (k.holds.stands l slot b).state ∙ (ap (state_at p.states) same ∙ st.state) in
+            let taken : Owned ≡ Free = sym (k.holds.stands l slot b).state ∙ (ap (state_at p.states) same ∙ st.state) in
             absurd (cc)
             )
         | inr ne ↦ apart.differ j l slot (sym (get_or-set_other xs i j (Some t) None ne) ∙ a) b
@@ -146,10 +146,10 @@ frames_cleared {p} {p1} {t} ch xs i here = record {
 }
 
 -- a value still stands in the pool, after a call that wrote its owned slots alone
-pub stands_in_after : {p p1 : Memory} {own ys await keep send : List (Option ℕ)} → FramesAll p p1 own → Holds p1 Own ys → StandsIn p own await keep send → StandsIn p1 ys await keep send
+pub stands_in_after : {p p1 : Memory} {own ys await keep send : List (Option ℕ)} → FramesAll p p1 own → Holds p1 Owned ys → StandsIn p own await keep send → StandsIn p1 ys await keep send
 stands_in_after {p} {p1} {own} {ys} {await} {keep} {send} f h st = record {
   owned = h;
-  awaited = (f.all_stay Await _ _ (λ e. absurd cc) (λ e. absurd cc) (keep_refl await st.awaited)).holds;
-  cached = (f.all_stay Keep _ _ (λ e. absurd cc) (λ e. absurd cc) (keep_refl keep st.cached)).holds;
-  sending = (f.all_stay Send _ _ (λ e. absurd cc) (λ e. absurd cc) (keep_refl send st.sending)).holds;
+  awaited = (f.all_stay Awaiting _ _ (λ e. absurd cc) (λ e. absurd cc) (keep_refl await st.awaited)).holds;
+  cached = (f.all_stay Cached _ _ (λ e. absurd cc) (λ e. absurd cc) (keep_refl keep st.cached)).holds;
+  sending = (f.all_stay Sending _ _ (λ e. absurd cc) (λ e. absurd cc) (keep_refl send st.sending)).holds;
 }

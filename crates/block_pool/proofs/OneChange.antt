@@ -2,7 +2,7 @@
 use Rattle.std.proofs.Common.{◌≡◌, ◌≢◌, ℕ, List, [], ◌<◌, length, set, refl, ap, sym, ◌∙◌, length-set}
 use Rattle.std.proofs.lemmas.List.{get_or-set_same, get_or-set_other, set-set, set_comm, length-replicate}
 use Rattle.block_pool.specs.declared.state.State.{State}
-use Rattle.block_pool.specs.declared.state.State.TheVariants.{Free, Lift}
+use Rattle.block_pool.specs.declared.state.State.TheVariants.{Free, Lifted}
 use Rattle.block_pool.specs.Memory.{Memory, Apart, words_at, state_at, with_words}
 use Rattle.block_pool.specs.Changes.{Changes, Stands, Lifts, StandsLifted}
 use Rattle.block_pool.specs.Lends.{refilled}
@@ -68,12 +68,12 @@ refilled_changes p t s ws st len = record {
 
 -- what stands between the lift of a slot and its lowering
 pub lift_write_lower : {p p1 p2 p3 : Memory} {t u : ℕ} {s : State} {w : List ℕ} → Stands p Free t → Stands p s u → Free ≢ s
-    → Changes p p1 t Lift (words_at p.words t) → Changes p1 p2 u s w → Changes p2 p3 t Free (words_at p2.words t) → Changes p p3 u s w
+    → Changes p p1 t Lifted (words_at p.words t) → Changes p1 p2 u s w → Changes p2 p3 t Free (words_at p2.words t) → Changes p p3 u s w
 lift_write_lower {p} {p1} {p2} {p3} {t} {u} {s} {w} free st diff up mid down =
     let apart : t ≢ u = λ z. diff (sym free.state ∙ (ap (state_at p.states) z ∙ st.state)) in
     let same_words : p1.words ≡ p.words = up.words ∙ set_present p.words t [] _ refl in
     record {
-      states = down.states ∙ rw (mid.states, up.states, set_comm p.states t u Lift s apart, set-set)
+      states = down.states ∙ rw (mid.states, up.states, set_comm p.states t u Lifted s apart, set-set)
           (set_present (set p.states u s) t Free Free (get_or-set_other p.states u t s Free apart ∙ free.state));
       words = down.words ∙ (set_present p2.words t [] _ refl ∙ rw (mid.words, same_words) refl);
       width = mid.width ∙ ap (λ (r : List (List ℕ)). length (words_at r u)) same_words;

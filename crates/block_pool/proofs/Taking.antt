@@ -2,13 +2,13 @@
 use Rattle.std.proofs.Common.{◌≡◌, ℕ, ◌≢◌, List, [], length, take, ap, ◌∙◌, refl, arith, append-nil}
 use Rattle.std.proofs.lemmas.List.{get_or-set_same, get_or-set_other, set-set, drop_all}
 use Rattle.block_pool.specs.declared.state.State.{State}
-use Rattle.block_pool.specs.declared.state.State.TheVariants.{Own}
+use Rattle.block_pool.specs.declared.state.State.TheVariants.{Owned}
 use Rattle.block_pool.specs.Memory.{Memory, with_words, with_front, words_at, state_at}
 use Rattle.block_pool.specs.Changes.{Takes, Stands}
 
 module _ (class : ℕ) (p p1 : Memory) (slot : ℕ) (s : State) (ws : List ℕ) (took : Takes class p p1 slot s ws) where
   -- no owned slot was taken
-  pub taken_apart : (from : ℕ) → Stands p Own from → from ≢ slot
+  pub taken_apart : (from : ℕ) → Stands p Owned from → from ≢ slot
   taken_apart from stands = λ e. absurd (cc (ap (state_at p.states) e, stands.state, took.was.state))
 
   -- its words
@@ -20,7 +20,7 @@ module _ (class : ℕ) (p p1 : Memory) (slot : ℕ) (s : State) (ws : List ℕ) 
   words_of_others from ne = ap (λ (w : List (List ℕ)). words_at w from) took.changes.words ∙ get_or-set_other p.words slot from ws [] ne
 
   -- a copy into the slot that was taken
-  pub taken_then_copied : (from n : ℕ) → Stands p Own from
+  pub taken_then_copied : (from n : ℕ) → Stands p Owned from
       → with_front (words_at p1.words slot) (take n (words_at p1.words from)) ≡ with_front ws (take n (words_at p.words from))
   taken_then_copied from n stands = rw (words_of_taken, words_of_others from (taken_apart from stands)) refl
 

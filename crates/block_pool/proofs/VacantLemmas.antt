@@ -6,7 +6,7 @@ use Rattle.std.proofs.lemmas.List.{get_or_default}
 use Rattle.std.specs.Option.{OnSome}
 use Rattle.slab.specs.Slab.{slab_len, HasRoomFor}
 use Rattle.block_pool.specs.declared.state.State.{State}
-use Rattle.block_pool.specs.declared.state.State.TheVariants.{Free, Own, Await, Keep, Send, Lift}
+use Rattle.block_pool.specs.declared.state.State.TheVariants.{Free, Owned, Awaiting, Cached, Sending, Lifted}
 use Rattle.block_pool.specs.declared.slots.Group.{Group}
 use Rattle.block_pool.specs.Memory.{is_free, free_slots}
 use Rattle.block_pool.specs.Occupied.{IsTied, group_at, table_of}
@@ -27,11 +27,11 @@ known_class gs cs ss g tied some = elim (cases_Bool (ltb g (length gs))) as (λ 
 -- a slot whose key is vacant is free
 pub vacant_is_free : (s : State) → false ≡ not (is_free s) → s ≡ Free
 vacant_is_free Free e = refl
-vacant_is_free Own e = absurd (cc)
-vacant_is_free Await e = absurd (cc)
-vacant_is_free Keep e = absurd (cc)
-vacant_is_free Send e = absurd (cc)
-vacant_is_free Lift e = absurd (cc)
+vacant_is_free Owned e = absurd (cc)
+vacant_is_free Awaiting e = absurd (cc)
+vacant_is_free Cached e = absurd (cc)
+vacant_is_free Sending e = absurd (cc)
+vacant_is_free Lifted e = absurd (cc)
 
 -- a u32 counts the free slots of a class
 pub free_fits : (gs : List Group) (cs : List ℕ) (ss : List State) (g : ℕ) → IsTied gs cs ss → g < length gs → (table_of gs g).capacity - slab_len (table_of gs g) < 2 ^ 32

@@ -1,7 +1,7 @@
 -- What a call does to a pool: one slot changes, and no other.
 use Rattle.std.specs.Prelude.{◌≡◌, ℕ, ◌<◌, ◌≤◌, true, List, length, replicate, slice_set}
 use Rattle.block_pool.specs.declared.state.State.{State}
-use Rattle.block_pool.specs.declared.state.State.TheVariants.{Free, Lift}
+use Rattle.block_pool.specs.declared.state.State.TheVariants.{Free, Lifted}
 use Rattle.block_pool.specs.Memory.{Memory, Apart, state_at, words_at, names}
 
 -- a lease of this kind stands in the pool
@@ -36,13 +36,13 @@ pub record Takes (class : ℕ) (old new : Memory) (slot : ℕ) (s : State) (held
 pub record Lifts (old new : Memory) (lifted : Apart) : Type 0 where
   pub was : Stands old Free lifted.slot
   pub named : names old old.widest lifted.slot ≡ true
-  pub changes : Changes old new lifted.slot Lift (words_at old.words lifted.slot)
+  pub changes : Changes old new lifted.slot Lifted (words_at old.words lifted.slot)
   pub is_lifted : new.is_lifted ≡ true
   pub words : lifted.words ≡ replicate old.most 0
 
 -- a lifted lease stands in the pool, with as many words as were lifted
 pub record StandsLifted (p : Memory) (lifted : Apart) : Type 0 where
-  pub slot : Stands p Lift lifted.slot
+  pub slot : Stands p Lifted lifted.slot
   pub width : length lifted.words ≡ p.most
 
 -- as many classes and states as slots

@@ -1,7 +1,15 @@
 -- What a contract sees of a pool.
 use Rattle.std.specs.Prelude.{ℕ, ◌+◌, Bool, true, false, ◌==◌, ◌&&◌, if◌then◌else◌, List, [], ◌∷◌, ◌++◌, length, drop, replicate, slice_index_or, slice_index, slice_set}
 use Rattle.block_pool.specs.declared.state.State.{State}
-use Rattle.block_pool.specs.declared.state.State.TheVariants.{Free, Own, Await, Keep, Send, Lift}
+use Rattle.block_pool.specs.declared.state.State.TheVariants.{Free, Owned, Awaiting, Cached, Sending, Lifted}
+
+-- how many size classes there are
+abbrev pub class_count : ℕ
+class_count = 17
+
+-- the last class, whose slots every class names in a pool of one width
+abbrev pub last_class : ℕ
+last_class = 16
 
 -- slot by slot its class, its state and its words; for each class the one whose slots it names;
 -- whether a slot is lifted; the widest class, and how wide a lifted slot is
@@ -22,9 +30,9 @@ state_at states slot = slice_index_or states slot Free
 abbrev pub words_at : List (List ℕ) → ℕ → List ℕ
 words_at words slot = slice_index_or words slot []
 
--- the class whose slots a class names; 17, which no slot has, where there is no such class
+-- the class whose slots a class names; one that no slot has where there is no such class
 abbrev pub group_of : List ℕ → ℕ → ℕ
-group_of groups class = slice_index_or groups class 17
+group_of groups class = slice_index_or groups class class_count
 
 -- the class names the slot
 abbrev pub names : Memory → ℕ → ℕ → Bool
@@ -33,11 +41,11 @@ names p class slot = slice_index p.classes slot == group_of p.groups class
 -- a slot in this state stands in no lease
 abbrev pub is_free : State → Bool
 is_free Free = true
-is_free Own = false
-is_free Await = false
-is_free Keep = false
-is_free Send = false
-is_free Lift = false
+is_free Owned = false
+is_free Awaiting = false
+is_free Cached = false
+is_free Sending = false
+is_free Lifted = false
 
 -- a slot counts among the free ones of a class
 abbrev pub serves : State → ℕ → ℕ → Bool

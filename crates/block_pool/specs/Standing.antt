@@ -2,7 +2,7 @@
 use Rattle.std.specs.Prelude.{◌≡◌, ◌≢◌, ℕ, ◌+◌, List, [], ◌∷◌, true, Option, Some, None, map, slice_index_or}
 use Rattle.std.specs.Option.{option_map, unwrap_or}
 use Rattle.block_pool.specs.declared.state.State.{State}
-use Rattle.block_pool.specs.declared.state.State.TheVariants.{Free, Own, Await, Keep, Send}
+use Rattle.block_pool.specs.declared.state.State.TheVariants.{Free, Owned, Awaiting, Cached, Sending}
 use Rattle.block_pool.specs.Memory.{Memory, words_at, names, one_if, free_in}
 use Rattle.block_pool.specs.Changes.{IsMemory, Stands}
 
@@ -18,10 +18,10 @@ pub record Holds (p : Memory) (s : State) (xs : List (Option ℕ)) : Type 0 wher
 -- a value with these leases stands in the pool: each of them does, and no two name one slot, since a
 -- slot has one state
 pub record StandsIn (p : Memory) (own await keep send : List (Option ℕ)) : Type 0 where
-  pub owned : Holds p Own own
-  pub awaited : Holds p Await await
-  pub cached : Holds p Keep keep
-  pub sending : Holds p Send send
+  pub owned : Holds p Owned own
+  pub awaited : Holds p Awaiting await
+  pub cached : Holds p Cached keep
+  pub sending : Holds p Sending send
 
 -- the words of the leases
 abbrev pub contents : Memory → List (Option ℕ) → List (Option (List ℕ))
@@ -46,11 +46,11 @@ pub record NoShared (xs zs : List (Option ℕ)) : Type 0 where
 
 -- whoever holds other owned slots still holds them, with their words, and shares none with the new list
 pub record Frames (old new : Memory) (xs ys : List (Option ℕ)) : Type 0 where
-  pub others_stay : (zs : List (Option ℕ)) (ws : List (Option (List ℕ))) → NoShared xs zs → Keeps old Own zs ws → Keeps new Own zs ws × NoShared ys zs
+  pub others_stay : (zs : List (Option ℕ)) (ws : List (Option (List ℕ))) → NoShared xs zs → Keeps old Owned zs ws → Keeps new Owned zs ws × NoShared ys zs
 
 -- whoever holds other slots of any kind still holds them, with their words
 pub record FramesAll (old new : Memory) (xs : List (Option ℕ)) : Type 0 where
-  pub all_stay : (s : State) (zs : List (Option ℕ)) (ws : List (Option (List ℕ))) → s ≢ Free → (s ≡ Own → NoShared xs zs) → Keeps old s zs ws → Keeps new s zs ws
+  pub all_stay : (s : State) (zs : List (Option ℕ)) (ws : List (Option (List ℕ))) → s ≢ Free → (s ≡ Owned → NoShared xs zs) → Keeps old s zs ws → Keeps new s zs ws
 
 -- how many leases of a list a class names
 abbrev pub named_count : Memory → ℕ → List (Option ℕ) → ℕ
@@ -61,7 +61,7 @@ named_count p class (Some slot ∷ xs) = one_if (names p class slot) + named_cou
 -- some owned leases of a list were given back, and these are left
 pub record Closing (old now : Memory) (all rest : List (Option ℕ)) : Type 0 where
   pub sound : IsMemory now
-  pub stands : Holds now Own rest
+  pub stands : Holds now Owned rest
   pub frame : Frames old now all rest
   pub classes : now.classes ≡ old.classes
   pub groups : now.groups ≡ old.groups

@@ -1,6 +1,7 @@
 //! Block memory in slots under leases.
 #![tactic(auto)]
 
+mod class;
 mod copies;
 mod how;
 mod lease;
@@ -13,6 +14,7 @@ mod runs;
 mod slots;
 mod state;
 
+pub use class::{CLASSES, LAST_CLASS};
 pub use copies::{copy_between, copy_front};
 pub use how::How;
 pub use lease::{Awaiting, Cached, Owned, Sending};

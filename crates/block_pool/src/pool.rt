@@ -3,9 +3,10 @@
 
 ghost use Rattle.std.specs.Prelude.{◌≡◌, ◌<◌, ℕ, List, false, length};
 ghost use Rattle.std.specs.Borrow.{sem};
-ghost use Rattle.block_pool.specs.Memory.{free_in, group_of, is_free, words_at, with_words, zeros_at};
+ghost use Rattle.block_pool.specs.Memory.{last_class, free_in, group_of, is_free, words_at, with_words, zeros_at};
 ghost use Rattle.block_pool.specs.Changes.{Stands, StandsLifted, Changes, Writes, Takes, Lifts};
 
+use crate::class::{CLASSES, LAST_CLASS};
 use crate::lease::Owned;
 use crate::lifted::Lifted;
 use crate::rows::Rows;
@@ -14,15 +15,15 @@ use crate::state::State;
 use std::marker::Model;
 
 mod opening;
-mod puts;
-mod replies;
+mod sending;
+mod waiting;
 
 /// Block memory, all taken at the opening: slots of words, each free or named by one lease.
 #[derive(Drop)]
 pub struct Pool {
     slots: Slots,
     rows: Rows,
-    groups: [u32; 17],
+    groups: [u32; CLASSES],
     buffer: Option<Vec<u64>>,
     widest: u32,
     most: usize,
@@ -44,11 +45,11 @@ impl Model for Pool {
 impl Pool {
     ghost use Rattle.block_pool.specs.Lends.{lends_slot, refilled};
 
-    /// How many slots that class 16 names are free.
+    /// How many slots that the last class names are free: in a pool of one width, how many are.
     pub fn free(&self) -> u32
-        ensures { result ≡ free_in self.now 16 }
+        ensures { result ≡ free_in self.now last_class }
     {
-        self.free_in(16)
+        self.free_in(LAST_CLASS)
     }
 
     /// How many slots that a class names are free.
@@ -66,24 +67,24 @@ impl Pool {
             .as_slice()
             .get(class as usize)
             .copied()
-            .unwrap_or(17)
+            .unwrap_or(CLASSES as u32)
     }
 
-    /// Takes a slot that class 16 names.
+    /// Takes a slot that the last class names: in a pool of one width, any.
     pub fn take(&mut self) -> Owned
-        requires { 0 < free_in self.old 16 }
-        ensures { Takes 16 self.old self.new result State.Own (zeros_at self.old result) }
+        requires { 0 < free_in self.old last_class }
+        ensures { Takes last_class self.old self.new result State.Owned (zeros_at self.old result) }
     {
-        self.take_in(16)
+        self.take_in(LAST_CLASS)
     }
 
     /// Takes a slot that a class names.
     pub fn take_in(&mut self, class: u32) -> Owned
         requires { 0 < free_in self.old class }
-        ensures { Takes class self.old self.new result State.Own (zeros_at self.old result) }
+        ensures { Takes class self.old self.new result State.Owned (zeros_at self.old result) }
     {
         Owned {
-            slot: self.take_slot(class, State::Own),
+            slot: self.take_slot(class, State::Owned),
         }
     }
 
@@ -100,7 +101,7 @@ impl Pool {
 
     /// Gives a slot back.
     pub fn give(&mut self, lease: Owned)
-        requires { Stands self.old State.Own lease }
+        requires { Stands self.old State.Owned lease }
         ensures { Writes self.old self.new lease State.Free (words_at self.old.words lease) }
     {
         let Owned { slot } = lease;
@@ -109,7 +110,7 @@ impl Pool {
 
     /// The words of a slot.
     pub fn words(&self, lease: &Owned) -> &[u64]
-        requires { Stands self.now State.Own lease.now }
+        requires { Stands self.now State.Owned lease.now }
         ensures { result.now ≡ words_at self.now.words lease.now }
     {
         self.rows.row(lease.slot)
@@ -117,7 +118,7 @@ impl Pool {
 
     /// The words of a slot, to be written.
     pub fn words_mut(&mut self, lease: &Owned) -> &mut [u64]
-        requires { Stands self.old State.Own lease.now }
+        requires { Stands self.old State.Owned lease.now }
         ensures* writes_back { sem 𝓛 (lends_slot self.entry lease.now result) }
         ensures value { result.now ≡ words_at self.old.words lease.now }
 
@@ -134,7 +135,7 @@ impl Pool {
         ensures { Lifts self.old self.new result }
     {
         let group = self.group_of(self.widest);
-        let slot = self.slots.take(group, State::Lift);
+        let slot = self.slots.take(group, State::Lifted);
         let mut words = self.buffer.take().unwrap();
         words.as_mut_slice().fill(0);
         Lifted { slot, words }

@@ -3,7 +3,7 @@
 
 ghost use Rattle.std.specs.Prelude.{◌≡◌, ◌≢◌, ◌≤◌, ◌<◌, length, replicate, take, slice_set, IfOk};
 ghost use Rattle.std.specs.Borrow.{sem};
-ghost use Rattle.block_pool.specs.Memory.{words_at, with_front};
+ghost use Rattle.block_pool.specs.Memory.{class_count, words_at, with_front};
 ghost use Rattle.block_pool.specs.Opened.{classes_from, zeros_of};
 ghost use Rattle.block_pool.specs.Mixed.{mixed};
 
@@ -97,7 +97,7 @@ impl Rows {
 
 // A row of zeros for each slot, as wide as its class.
 pub(crate) fn zero_rows(alloc: Global, counts: &[u32], widths: &[u32]) -> Result<Rows, AllocError>
-    requires { length counts.now ≤ 17 }
+    requires { length counts.now ≤ class_count }
     ensures { IfOk result (λ r. r ≡ zeros_of widths.now (classes_from 0 counts.now)) }
 {
     let runs = runs_of(alloc, counts, widths)?;

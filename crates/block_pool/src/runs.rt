@@ -1,6 +1,7 @@
 //! Runs of slots: how wide each slot is, and where its words stand.
 #![tactic(auto)]
 
+ghost use Rattle.block_pool.specs.Memory.{class_count};
 ghost use Rattle.std.specs.Prelude.{◌≡◌, ◌+◌, ◌^◌, ◌<◌, ◌≤◌, length, map, take, slice_index, IfOk, IfSome};
 ghost use Rattle.block_pool.specs.Opened.{classes_from};
 ghost use Rattle.block_pool.specs.Cut.{total};
@@ -18,7 +19,7 @@ pub(crate) struct Run {
 
 // A run for each class.
 pub(crate) fn runs_of(alloc: Global, counts: &[u32], widths: &[u32]) -> Result<Vec<Run>, AllocError>
-    requires { length counts.now ≤ 17 }
+    requires { length counts.now ≤ class_count }
     ensures { IfOk result (λ runs. widths_of runs.items ≡ map (slice_index widths.now) (classes_from 0 counts.now)) }
 {
     let mut runs = Vec::with_capacity(alloc, counts.len())?;

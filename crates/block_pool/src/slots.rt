@@ -1,7 +1,7 @@
 //! Which slots are free, in a slab for each class.
 
 ghost use Rattle.std.specs.Prelude.{◌≡◌, ◌+◌, ◌<◌, ◌++◌, ◌≤◌, [], false, length, replicate, slice_index, slice_set, sum, IfOk, OnOk};
-ghost use Rattle.block_pool.specs.Memory.{state_at, is_free, free_slots};
+ghost use Rattle.block_pool.specs.Memory.{class_count, state_at, is_free, free_slots};
 ghost use Rattle.block_pool.specs.Surplus.{IsVacantBelow};
 
 use crate::state::State;
@@ -41,7 +41,7 @@ impl Slots {
 
     // So many slots of each class, all free.
     pub(crate) fn open(alloc: Global, counts: &[u32]) -> Result<Slots, AllocError>
-        requires { length counts.now ≤ 17 }
+        requires { length counts.now ≤ class_count }
         ensures classes { IfOk result (λ s. s.classes ≡ classes_from 0 counts.now) }
         ensures states { IfOk result (λ s. s.states ≡ replicate (length (classes_from 0 counts.now)) State.Free) }
     {
@@ -109,7 +109,7 @@ impl Slots {
 
 // How many slots all classes have.
 fn count_slots(counts: &[u32]) -> usize
-    requires { length counts.now ≤ 17 }
+    requires { length counts.now ≤ class_count }
     ensures { result ≡ sum counts.now }
 {
     counts.iter().map(|count| *count as usize).sum()

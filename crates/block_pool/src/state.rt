@@ -5,9 +5,9 @@
 pub enum State {
     #[default]
     Free,
-    Own,
-    Await,
-    Keep,
-    Send,
-    Lift,
+    Owned,
+    Awaiting,
+    Cached,
+    Sending,
+    Lifted,
 }

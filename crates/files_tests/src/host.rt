@@ -1,7 +1,7 @@
 //! The host's files and standard streams: what only a run shows.
 
 use either::{Either, Left, Right};
-use sip_files::{Files, HostFiles, HostSink, LoadFault, Sink};
+use sip_files::{Failed, Files, HostFiles, HostSink, LoadFault, Sink};
 use std::io::{Stderr, Stdout};
 
 #[test]
@@ -15,6 +15,34 @@ fn the_host_refuses_what_it_cannot_read(rt: HostRuntime) {
         let mut files = HostFiles::new(&rt);
         let mut bytes = Vec::new(rt.alloc());
         assert_eq!(rt; files.load(name, &mut bytes, 9), want, "{name}");
+    }
+}
+
+#[test]
+fn the_host_refuses_what_it_cannot_write(rt: HostRuntime) {
+    for (name, clear, append) in [
+        ("/dev/null", Ok(()), Ok(())),
+        ("/dev/full", Ok(()), Err(Failed)),
+        ("/dev", Err(Failed), Err(Failed)),
+        ("no such folder/file", Err(Failed), Err(Failed)),
+    ] {
+        let mut files = HostFiles::new(&rt);
+        assert_eq!(rt; files.clear(name), clear, "{name}");
+        assert_eq!(rt; files.append(name, b"x"), append, "{name}");
+    }
+}
+
+#[test]
+fn a_file_of_the_host_is_cleared_added_to_and_read(rt: HostRuntime) {
+    let mut files = HostFiles::new(&rt);
+    for bytes in [b"abc".as_slice(), b"de", b""] {
+        assert_eq!(rt; files.clear("written"), Ok(()));
+        assert_eq!(rt; files.append("written", bytes), Ok(()));
+        assert_eq!(rt; files.append("written", b"fg"), Ok(()));
+        let mut read = Vec::new(rt.alloc());
+        assert_eq!(rt; files.load("written", &mut read, 9), Ok(()));
+        assert!(rt; read.as_slice().starts_with(bytes) && read.as_slice().ends_with(b"fg"));
+        assert_eq!(rt; read.len(), bytes.len() + 2);
     }
 }
 

@@ -9,3 +9,5 @@ mod memory;
 mod pieces;
 #[cfg(test)]
 mod streams;
+#[cfg(test)]
+mod writing;

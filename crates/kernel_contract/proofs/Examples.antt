@@ -19,14 +19,14 @@ abbrev number : ℕ → ℕ → ℕ
 number i j = value (1 ∷ 2 ∷ 3 ∷ 4 ∷ []) (5 ∷ 6 ∷ 7 ∷ 8 ∷ []) rows columns shared (i ∷ []) (j ∷ [])
 
 -- and where it stands
-abbrev place : ℕ → ℕ → ℕ
-place i j = target rows columns (i ∷ []) (j ∷ [])
+abbrev position : ℕ → ℕ → ℕ
+position i j = target rows columns (i ∷ []) (j ∷ [])
 
 products : (number 0 0 ∷ number 0 1 ∷ number 1 0 ∷ number 1 1 ∷ []) ≡ (19 ∷ 22 ∷ 43 ∷ 50 ∷ [])
 products = refl
 
-places : (place 0 0 ∷ place 0 1 ∷ place 1 0 ∷ place 1 1 ∷ []) ≡ (0 ∷ 1 ∷ 2 ∷ 3 ∷ [])
-places = refl
+positions : (position 0 0 ∷ position 0 1 ∷ position 1 0 ∷ position 1 1 ∷ []) ≡ (0 ∷ 1 ∷ 2 ∷ 3 ∷ [])
+positions = refl
 
 added : combined Add 1 (number 1 1) ≡ 51
 added = refl

@@ -5,35 +5,35 @@ use Rattle.std.proofs.lemmas.Slice.{drop-put_mid, take-put_mid}
 use borrow.Rule.Slice.PartMut.{put_mid}
 use Rattle.kernel_permute.specs.declared.how.How.{How}
 use Rattle.kernel_contract.specs.Contraction.{Contracted, Fits, target, value}
-use Rattle.kernel_contract.specs.Places.{IsPlace, offset, one, filled_up, sum_over}
+use Rattle.kernel_contract.specs.Positions.{IsPosition, offset, one, filled_up, sum_over}
 use Rattle.kernel_contract.specs.declared.axis.Axis.{Axis}
 use Rattle.kernel_contract.proofs.SourceLemmas.{sum_over-cong}
 
--- a place with a 0 for each axis in front
+-- a position with a 0 for each axis in front
 abbrev pub behind : ℕ → List ℕ → List ℕ
-behind n place = replicate n 0 ++ place
+behind n position = replicate n 0 ++ position
 
--- is a place, at the same offset
-pub IsPlace-behind : (n : ℕ) (axes : List Axis) (place : List ℕ) → IsPlace axes place → IsPlace (filled_up n axes) (behind n place)
-IsPlace-behind zero axes place h = h
-IsPlace-behind (suc n) axes place h = (lit< tt, IsPlace-behind n axes place h)
+-- is a position, at the same offset
+pub IsPosition-behind : (n : ℕ) (axes : List Axis) (position : List ℕ) → IsPosition axes position → IsPosition (filled_up n axes) (behind n position)
+IsPosition-behind zero axes position h = h
+IsPosition-behind (suc n) axes position h = (lit< tt, IsPosition-behind n axes position h)
 
-pub offset-behind : (stride : Axis → ℕ) (n : ℕ) (axes : List Axis) (place : List ℕ) → stride one ≡ 0 → offset stride (filled_up n axes) (behind n place) ≡ offset stride axes place
-offset-behind stride zero axes place none = refl
-offset-behind stride (suc n) axes place none = omega (arith, offset-behind stride n axes place none)
+pub offset-behind : (stride : Axis → ℕ) (n : ℕ) (axes : List Axis) (position : List ℕ) → stride one ≡ 0 → offset stride (filled_up n axes) (behind n position) ≡ offset stride axes position
+offset-behind stride zero axes position none = refl
+offset-behind stride (suc n) axes position none = omega (arith, offset-behind stride n axes position none)
 
--- the sum over all places is the same
-pub sum_over-behind : (n : ℕ) (axes : List Axis) (term : List ℕ → ℕ) → sum_over (filled_up n axes) term ≡ sum_over axes (λ place. term (behind n place))
+-- the sum over all positions is the same
+pub sum_over-behind : (n : ℕ) (axes : List Axis) (term : List ℕ → ℕ) → sum_over (filled_up n axes) term ≡ sum_over axes (λ position. term (behind n position))
 sum_over-behind zero axes term = refl
-sum_over-behind (suc n) axes term = omega (arith, sum_over-behind n axes (λ place. term (0 ∷ place)))
+sum_over-behind (suc n) axes term = omega (arith, sum_over-behind n axes (λ position. term (0 ∷ position)))
 
--- and every place is such a one
-pub place-front : (n : ℕ) (axes : List Axis) (place : List ℕ) → IsPlace (filled_up n axes) place → (rest : List ℕ) × IsPlace axes rest × (place ≡ behind n rest)
-place-front zero axes place h = (place, h, refl)
-place-front (suc n) axes [] h = absurd h
-place-front (suc n) axes (k ∷ ks) h =
+-- and every position is such a one
+pub position-front : (n : ℕ) (axes : List Axis) (position : List ℕ) → IsPosition (filled_up n axes) position → (rest : List ℕ) × IsPosition axes rest × (position ≡ behind n rest)
+position-front zero axes position h = (position, h, refl)
+position-front (suc n) axes [] h = absurd h
+position-front (suc n) axes (k ∷ ks) h =
     let first : k ≡ 0 = omega (arith, h.0) in
-    let more = place-front n axes ks h.1 in
+    let more = position-front n axes ks h.1 in
     (more.0, more.1, ap (λ x. x ∷ ks) first ∙ ap (λ xs. 0 ∷ xs) more.2)
 
 -- the lists of axes of a contraction, filled up by so many each
@@ -57,29 +57,29 @@ module _ (n m l : ℕ) (free_a free_b shared : List Axis) where
   pub Fits-filled : (a b to : ℕ) → Fits a b to free_a free_b shared → Fits a b to (filled_up n free_a) (filled_up m free_b) (filled_up l shared)
   Fits-filled a b to fits = record {
     in_a = λ f g s pf pg ps.
-        let f' = place-front n free_a f pf in
-        let g' = place-front m free_b g pg in
-        let s' = place-front l shared s ps in
+        let f' = position-front n free_a f pf in
+        let g' = position-front m free_b g pg in
+        let s' = position-front l shared s ps in
         let at_f = offset-behind (λ x. x.a) n free_a f'.0 refl in
         let at_s = offset-behind (λ x. x.a) l shared s'.0 refl in
         rw (f'.2, s'.2, at_f, at_s) (fits.in_a f'.0 g'.0 s'.0 f'.1 g'.1 s'.1);
     in_b = λ f g s pf pg ps.
-        let f' = place-front n free_a f pf in
-        let g' = place-front m free_b g pg in
-        let s' = place-front l shared s ps in
+        let f' = position-front n free_a f pf in
+        let g' = position-front m free_b g pg in
+        let s' = position-front l shared s ps in
         let at_g = offset-behind (λ x. x.b) m free_b g'.0 refl in
         let at_s = offset-behind (λ x. x.b) l shared s'.0 refl in
         rw (g'.2, s'.2, at_g, at_s) (fits.in_b f'.0 g'.0 s'.0 f'.1 g'.1 s'.1);
     in_to = λ f g pf pg.
-        let f' = place-front n free_a f pf in
-        let g' = place-front m free_b g pg in
+        let f' = position-front n free_a f pf in
+        let g' = position-front m free_b g pg in
         let at = target-behind f'.0 g'.0 in
         rw (f'.2, g'.2, at) (fits.in_to f'.0 g'.0 f'.1 g'.1);
     differ = λ f g h k pf pg ph pk e.
-        let f' = place-front n free_a f pf in
-        let g' = place-front m free_b g pg in
-        let h' = place-front n free_a h ph in
-        let k' = place-front m free_b k pk in
+        let f' = position-front n free_a f pf in
+        let g' = position-front m free_b g pg in
+        let h' = position-front n free_a h ph in
+        let k' = position-front m free_b k pk in
         let first = target-behind f'.0 g'.0 in
         let second = target-behind h'.0 k'.0 in
         let same = rw (f'.2, g'.2, h'.2, k'.2, first, second) at e in
@@ -94,10 +94,10 @@ module _ (n m l : ℕ) (free_a free_b shared : List Axis) where
     named = λ f g pf pg.
         let at = target-behind f g in
         let v = value-behind a b f g in
-        rw (at, v) at (done.named (behind n f) (behind m g) (IsPlace-behind n free_a f pf) (IsPlace-behind m free_b g pg));
+        rw (at, v) at (done.named (behind n f) (behind m g) (IsPosition-behind n free_a f pf) (IsPosition-behind m free_b g pg));
     others = λ k h. done.others k (λ f g pf pg e.
-        let f' = place-front n free_a f pf in
-        let g' = place-front m free_b g pg in
+        let f' = position-front n free_a f pf in
+        let g' = position-front m free_b g pg in
         let at = target-behind f'.0 g'.0 in
         h f'.0 g'.0 f'.1 g'.1 (sym at ∙ (rw (f'.2, g'.2) at e)));
     len = done.len;

@@ -5,9 +5,9 @@ use Rattle.kernel_permute.specs.How.{combined}
 use Rattle.kernel_permute.specs.declared.how.How.{How}
 use Rattle.kernel_contract.specs.Panels.{ArePanels, column_entry}
 use Rattle.kernel_contract.specs.Parts.{Replaced, term_at}
-use Rattle.kernel_contract.specs.Places.{offset_a, offset_b}
+use Rattle.kernel_contract.specs.Positions.{offset_a, offset_b}
 use Rattle.kernel_contract.specs.Sum.{sum_to}
-use Rattle.kernel_contract.specs.Walks.{IsRun, place_at}
+use Rattle.kernel_contract.specs.Walks.{IsRun, position_at}
 use Rattle.kernel_contract.specs.declared.axis.Axis.{Axis}
 use Rattle.kernel_contract.specs.declared.run.Run.{Run}
 use Rattle.kernel_contract.proofs.Numbers.{mod_both}
@@ -47,10 +47,10 @@ part_terms a b axes p columns first count j part panels run are inside =
     sum_to-cong part.len (λ k. get_or a ((get_or part.a k 0 + p) % 2 ^ 64) 0 * column_entry panels k j) (λ k. term_at a b axes p (get_or columns j 0) (first + k))
     (λ k low.
     let q : ℕ = get_or columns j 0 in
-    let in_a = known-add (get_or part.a k 0) (offset_a axes (place_at axes (first + k))) p (run.a k low) in
-    let in_b = known-add (get_or part.b k 0) (offset_b axes (place_at axes (first + k))) q (run.b k low) in
-    let turned_a : offset_a axes (place_at axes (first + k)) + p ≡ p + offset_a axes (place_at axes (first + k)) = omega arith in
-    let turned_b : offset_b axes (place_at axes (first + k)) + q ≡ q + offset_b axes (place_at axes (first + k)) = omega arith in
+    let in_a = known-add (get_or part.a k 0) (offset_a axes (position_at axes (first + k))) p (run.a k low) in
+    let in_b = known-add (get_or part.b k 0) (offset_b axes (position_at axes (first + k))) q (run.b k low) in
+    let turned_a : offset_a axes (position_at axes (first + k)) + p ≡ p + offset_a axes (position_at axes (first + k)) = omega arith in
+    let turned_b : offset_b axes (position_at axes (first + k)) + q ≡ q + offset_b axes (position_at axes (first + k)) = omega arith in
     let left = ap (λ t. get_or a t 0) (in_a ∙ ap (λ t. t % 2 ^ 64) turned_a) in
     let right = are k j low inside ∙ ap (λ t. get_or b t 0) (in_b ∙ ap (λ t. t % 2 ^ 64) turned_b) in
     rw (left, right))

@@ -8,7 +8,7 @@ pub mod Numbers
 pub mod OrderLemmas
 pub mod PanelLemmas
 pub mod PartLemmas
-pub mod PlaceLemmas
+pub mod PositionLemmas
 pub mod Products
 pub mod SourceLemmas
 pub mod Steps

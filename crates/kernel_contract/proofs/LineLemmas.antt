@@ -3,7 +3,7 @@ use Rattle.std.proofs.Common.{◌≡◌, ℕ, suc, ◌+◌, ◌-◌, ◌*◌, �
 use Rattle.std.proofs.lemmas.List.{take_all}
 use Rattle.std.proofs.Math.Nat.{mod-add-mod}
 use Rattle.kernel_contract.specs.Parts.{Reaches, sum_from}
-use Rattle.kernel_contract.specs.Places.{offset, offset_a, offset_b, sum_over}
+use Rattle.kernel_contract.specs.Positions.{offset, offset_a, offset_b, sum_over}
 use Rattle.kernel_contract.specs.declared.axis.Axis.{Axis}
 use Rattle.kernel_contract.proofs.SourceLemmas.{sum_over-cong}
 
@@ -66,7 +66,7 @@ first_alone [] some few = absurd (omega arith)
 first_alone (x ∷ []) some few = refl
 first_alone (x ∷ y ∷ ys) some few = absurd (omega arith)
 
--- the product at the only place of no axes
+-- the product at the only position of no axes
 pub sum_from-none : (a b : List ℕ) (axes : List Axis) (p q : ℕ) → length axes < 1
     → sum_from a b axes p q ≡ get_or a ((p + 0) % 2 ^ 64) 0 * get_or b ((q + 0) % 2 ^ 64) 0 % 2 ^ 64
 sum_from-none a b axes p q few = ap (λ (xs : List Axis). sum_from a b xs p q) (none_left axes few)

@@ -5,7 +5,7 @@ use Rattle.std.proofs.lemmas.Bool.Decides.{nat_tests}
 use Rattle.std.proofs.lemmas.Nat.{mod-mul-add, div-mul-add}
 use Rattle.kernel_contract.specs.Contraction.{Fits}
 use Rattle.kernel_contract.specs.Order.{by_rows, greatest, keeps_apart, nested, nested_alone, nested_beside, stride_in}
-use Rattle.kernel_contract.specs.Places.{IsPlace, offset}
+use Rattle.kernel_contract.specs.Positions.{IsPosition, offset}
 use Rattle.kernel_contract.specs.declared.axis.Axis.{Axis}
 use Rattle.kernel_contract.specs.declared.order.Side.TheVariants.{A, B, To}
 use Rattle.kernel_contract.proofs.WalkLemmas.{both_true}
@@ -13,8 +13,8 @@ use Rattle.kernel_contract.proofs.WalkLemmas.{both_true}
 below_true : (n m : ℕ) → nat_lt n m ≡ true → n < m
 below_true n m e = grind (arith, nat_tests)
 
--- no place has a greater offset than the greatest
-pub offset-le : (stride : Axis → ℕ) (axes : List Axis) (place : List ℕ) → IsPlace axes place → offset stride axes place ≤ greatest stride axes
+-- no position has a greater offset than the greatest
+pub offset-le : (stride : Axis → ℕ) (axes : List Axis) (position : List ℕ) → IsPosition axes position → offset stride axes position ≤ greatest stride axes
 offset-le stride [] [] p = omega arith
 offset-le stride [] (n ∷ ns) p = absurd p
 offset-le stride (x ∷ xs) [] p = absurd p
@@ -32,8 +32,8 @@ same_digits n m w r s hr hs e = (
   sym (mod-mul-add n w r hr) ∙ ap (λ t. t % w) e ∙ mod-mul-add m w s hs,
 )
 
--- where one axis keeps its places apart, its numbers agree, and so do the others' offsets
-apart_same : (x : Axis) (first second : List Axis) (y z : ℕ) (f h g k : List ℕ) → keeps_apart x first second ≡ true → y < x.len → z < x.len → IsPlace first f → IsPlace first h → IsPlace second g → IsPlace second k
+-- where one axis keeps its positions apart, its numbers agree, and so do the others' offsets
+apart_same : (x : Axis) (first second : List Axis) (y z : ℕ) (f h g k : List ℕ) → keeps_apart x first second ≡ true → y < x.len → z < x.len → IsPosition first f → IsPosition first h → IsPosition second g → IsPosition second k
     → y * x.to + (offset (stride_in To) first f + offset (stride_in To) second g) ≡ z * x.to + (offset (stride_in To) first h + offset (stride_in To) second k)
     → (y ≡ z) × (offset (stride_in To) first f + offset (stride_in To) second g ≡ offset (stride_in To) first h + offset (stride_in To) second k)
 apart_same x first second y z f h g k is below_y below_z pf ph pg pk same = by_length (nat_lt x.len 2) refl is
@@ -50,7 +50,7 @@ apart_same x first second y z f h g k is below_y below_z pf ph pg pk same = by_l
         (omega (arith, long, offset-le (stride_in To) first f pf, offset-le (stride_in To) second g pg))
         (omega (arith, long, offset-le (stride_in To) first h ph, offset-le (stride_in To) second k pk)) same
 
-alone_same : (axes : List Axis) (g k : List ℕ) → nested_alone axes ≡ true → IsPlace axes g → IsPlace axes k → offset (stride_in To) axes g ≡ offset (stride_in To) axes k → g ≡ k
+alone_same : (axes : List Axis) (g k : List ℕ) → nested_alone axes ≡ true → IsPosition axes g → IsPosition axes k → offset (stride_in To) axes g ≡ offset (stride_in To) axes k → g ≡ k
 alone_same [] [] [] is pg pk same = refl
 alone_same [] (m ∷ ms) k is pg pk same = absurd pg
 alone_same [] [] (m ∷ ms) is pg pk same = absurd pk
@@ -63,9 +63,9 @@ alone_same (x ∷ xs) (m ∷ ms) (n ∷ ns) is pg pk same =
     let tail = alone_same xs ms ns both.1 pg.1 pk.1 (omega (arith, digits.1)) in
     cc
 
--- what is to be shown of two lists: a sum of two offsets comes from one pair of places
+-- what is to be shown of two lists: a sum of two offsets comes from one pair of positions
 abbrev OnePair : List Axis → List Axis → Type 0
-OnePair first second = (f h g k : List ℕ) → IsPlace first f → IsPlace first h → IsPlace second g → IsPlace second k
+OnePair first second = (f h g k : List ℕ) → IsPosition first f → IsPosition first h → IsPosition second g → IsPosition second k
     → offset (stride_in To) first f + offset (stride_in To) second g ≡ offset (stride_in To) first h + offset (stride_in To) second k
     → (f ≡ h) × (g ≡ k)
 

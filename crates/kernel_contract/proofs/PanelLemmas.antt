@@ -66,17 +66,17 @@ panel_sum n packed panels q i j sum low long e =
     ∙ sym (rw len at e)
 
 -- a panel's row has the numbers that the sum asks for, where a row's offset is known modulo 2^64
-pub panel_term : (from lanes at : List ℕ) (panel : List (List ℕ)) (places k i o : ℕ) → IsPanel from lanes at places panel → k < places → i < 4
+pub panel_term : (from lanes at : List ℕ) (panel : List (List ℕ)) (positions k i o : ℕ) → IsPanel from lanes at positions panel → k < positions → i < 4
     → get_or lanes i 0 ≡ o % 2 ^ 64 → entry panel k i ≡ get_or from ((get_or at k 0 + o) % 2 ^ 64) 0
-panel_term from lanes at panel places k i o is low lane e =
+panel_term from lanes at panel positions k i o is low lane e =
     is k i low lane ∙ ap (λ t. get_or from t 0) (add-known (get_or at k 0) (get_or lanes i 0) o e)
 
 -- so the sums of a panel with columns are those
-pub panel_terms : (from lanes at : List ℕ) (panel : List (List ℕ)) (panels : List (List (List ℕ))) (places i j o : ℕ) → IsPanel from lanes at places panel → i < 4
+pub panel_terms : (from lanes at : List ℕ) (panel : List (List ℕ)) (panels : List (List (List ℕ))) (positions i j o : ℕ) → IsPanel from lanes at positions panel → i < 4
     → get_or lanes i 0 ≡ o % 2 ^ 64
-    → sum_to places (λ k. get_or from ((get_or at k 0 + o) % 2 ^ 64) 0 * column_entry panels k j) % 2 ^ 64
-    ≡ sum_to places (λ k. entry panel k i * column_entry panels k j) % 2 ^ 64
-panel_terms from lanes at panel panels places i j o is lane e =
+    → sum_to positions (λ k. get_or from ((get_or at k 0 + o) % 2 ^ 64) 0 * column_entry panels k j) % 2 ^ 64
+    ≡ sum_to positions (λ k. entry panel k i * column_entry panels k j) % 2 ^ 64
+panel_terms from lanes at panel panels positions i j o is lane e =
     ap (λ t. t % 2 ^ 64)
-    (sum_to-cong places (λ k. get_or from ((get_or at k 0 + o) % 2 ^ 64) 0 * column_entry panels k j) (λ k. entry panel k i * column_entry panels k j)
-    (λ k low. let row = panel_term from lanes at panel places k i o is low lane e in rw row))
+    (sum_to-cong positions (λ k. get_or from ((get_or at k 0 + o) % 2 ^ 64) 0 * column_entry panels k j) (λ k. entry panel k i * column_entry panels k j)
+    (λ k low. let row = panel_term from lanes at panel positions k i o is low lane e in rw row))

@@ -7,7 +7,7 @@ use Rattle.kernel_contract.specs.Parts.{AreTargets, Replaced}
 split : (j c : ℕ) → (j < c) ⊎ (c ≤ j)
 split j c = grind arith
 
--- rows and columns may change places
+-- rows and columns may change positions
 pub Replaced-turned : (how : How) (T V : ℕ → ℕ → ℕ) (m n : ℕ) (old new : List ℕ) → Replaced how T V m n old new
     → Replaced how (λ i j. T j i) (λ i j. V j i) n m old new
 Replaced-turned how T V m n old new r = record {

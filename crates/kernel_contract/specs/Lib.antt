@@ -1,5 +1,5 @@
 pub mod Contraction
-pub mod Places
+pub mod Positions
 pub mod Sum
 pub mod Product
 pub mod Order

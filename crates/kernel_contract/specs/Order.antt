@@ -10,16 +10,16 @@ stride_in A x = x.a
 stride_in B x = x.b
 stride_in To x = x.to
 
--- the greatest offset of a place
+-- the greatest offset of a position
 abbrev pub greatest : (Axis → ℕ) → List Axis → ℕ
 greatest stride [] = 0
 greatest stride (x ∷ xs) = (x.len - 1) * stride x + greatest stride xs
 
--- whether an axis keeps its places apart in the target, wherever the other axes stand: it has one place, or its stride is longer than what they reach
+-- whether an axis keeps its positions apart in the target, wherever the other axes stand: it has one position, or its stride is longer than what they reach
 abbrev pub keeps_apart : Axis → List Axis → List Axis → Bool
 keeps_apart x first second = nat_lt x.len 2 || nat_lt (greatest (stride_in To) first + greatest (stride_in To) second) x.to
 
--- whether each axis of a list keeps its places apart, wherever the axes after it stand
+-- whether each axis of a list keeps its positions apart, wherever the axes after it stand
 abbrev pub nested_alone : List Axis → Bool
 nested_alone [] = true
 nested_alone (x ∷ xs) = keeps_apart x [] xs && nested_alone xs
@@ -30,12 +30,12 @@ nested_beside x xs go [] = keeps_apart x xs [] && go []
 nested_beside x xs go (y ∷ ys) =
     if nat_lt y.to x.to then keeps_apart x xs (y ∷ ys) && go (y ∷ ys) else keeps_apart y (x ∷ xs) ys && nested_beside x xs go ys
 
--- whether, the axes of both lists taken by falling stride, each keeps its places apart, wherever the axes after it stand
+-- whether, the axes of both lists taken by falling stride, each keeps its positions apart, wherever the axes after it stand
 abbrev pub nested : List Axis → List Axis → Bool
 nested [] second = nested_alone second
 nested (x ∷ xs) second = nested_beside x xs (nested xs) second
 
--- whether all places lie in lists of these lengths, and the target lies by rows
+-- whether all positions lie in lists of these lengths, and the target lies by rows
 abbrev pub by_rows : ℕ → ℕ → ℕ → List Axis → List Axis → List Axis → Bool
 by_rows a b to free_a free_b shared =
     nat_lt (greatest (stride_in A) free_a + greatest (stride_in A) shared) a

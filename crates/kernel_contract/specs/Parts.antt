@@ -3,22 +3,22 @@ use Rattle.std.specs.Prelude.{ℕ, ◌≡◌, ◌≢◌, ◌+◌, ◌*◌, ◌%�
 use Rattle.kernel_permute.specs.How.{combined}
 use Rattle.kernel_permute.specs.declared.how.How.{How}
 use Rattle.kernel_contract.specs.declared.axis.Axis.{Axis}
-use Rattle.kernel_contract.specs.Walks.{place_at}
-use Rattle.kernel_contract.specs.Places.{IsPlace, offset_a, offset_b, sum_over}
+use Rattle.kernel_contract.specs.Walks.{position_at}
+use Rattle.kernel_contract.specs.Positions.{IsPosition, offset_a, offset_b, sum_over}
 
--- from an offset on, all places lie in a list of this length
+-- from an offset on, all positions lie in a list of this length
 abbrev pub Reaches : (List Axis → List ℕ → ℕ) → List Axis → ℕ → ℕ → Type 0
-Reaches offset_of axes from len = (s : List ℕ) → IsPlace axes s → (from + offset_of axes s) % 2 ^ 64 < len
+Reaches offset_of axes from len = (s : List ℕ) → IsPosition axes s → (from + offset_of axes s) % 2 ^ 64 < len
 
--- the sum, over all places, of `a` from one offset on times `b` from another on, modulo 2^64
+-- the sum, over all positions, of `a` from one offset on times `b` from another on, modulo 2^64
 abbrev pub sum_from : List ℕ → List ℕ → List Axis → ℕ → ℕ → ℕ
 sum_from a b axes from_a from_b =
     sum_over axes (λ s. slice_index a ((from_a + offset_a axes s) % 2 ^ 64) * slice_index b ((from_b + offset_b axes s) % 2 ^ 64)) % 2 ^ 64
 
--- from these offsets on, the product at the place with a number
+-- from these offsets on, the product at the position with a number
 abbrev pub term_at : List ℕ → List ℕ → List Axis → (from_a from_b number : ℕ) → ℕ
 term_at a b axes from_a from_b k =
-    slice_index a ((from_a + offset_a axes (place_at axes k)) % 2 ^ 64) * slice_index b ((from_b + offset_b axes (place_at axes k)) % 2 ^ 64)
+    slice_index a ((from_a + offset_a axes (position_at axes k)) % 2 ^ 64) * slice_index b ((from_b + offset_b axes (position_at axes k)) % 2 ^ 64)
 
 -- the targets of the first `m` rows and `n` columns lie in a list of this length, and no two are one
 pub record AreTargets (target : ℕ → ℕ → ℕ) (m n len : ℕ) : Type 0 where

@@ -10,7 +10,7 @@ row_of matrix i = slice_index_or matrix i []
 abbrev pub entry : List (List ℕ) → ℕ → ℕ → ℕ
 entry matrix i j = slice_index (row_of matrix i) j
 
--- the sum over the first `s` places of a row, times those of a column of `b`
+-- the sum over the first `s` positions of a row, times those of a column of `b`
 abbrev pub row_by : List ℕ → List (List ℕ) → ℕ → ℕ → ℕ
 row_by row b s j = sum_to s (λ k. slice_index row k * entry b k j)
 

@@ -5,10 +5,10 @@ ghost use Rattle.kernel_permute.specs.How.{combined};
 ghost use Rattle.kernel_contract.specs.Contraction.{Contracted, Fits};
 ghost use Rattle.kernel_contract.specs.Panels.{column_entry};
 ghost use Rattle.kernel_contract.specs.Parts.{AreTargets, Reaches, Replaced, sum_from, term_at};
-ghost use Rattle.kernel_contract.specs.Places.{offset_a, offset_b, offset_to};
+ghost use Rattle.kernel_contract.specs.Positions.{offset_a, offset_b, offset_to};
 ghost use Rattle.kernel_contract.specs.Product.{entry};
 ghost use Rattle.kernel_contract.specs.Sum.{sum_to};
-ghost use Rattle.kernel_contract.specs.Walks.{IsFilled, Stands, count, gone, place_at};
+ghost use Rattle.kernel_contract.specs.Walks.{IsFilled, Stands, count, gone, position_at};
 
 use crate::axis::Axis;
 use crate::panel::{Panel, pack, pack_columns, panel_sums};
@@ -17,7 +17,7 @@ use crate::storing::store;
 use crate::walk::Walk;
 use kernel_permute::How;
 
-/// Contracts as `contract` does, where each list of axes has a place.
+/// Contracts as `contract` does, where each list of axes has a position.
 pub fn by_panels<const FA: usize, const FB: usize, const S: usize>(
     a: &[u64],
     b: &[u64],
@@ -28,7 +28,7 @@ pub fn by_panels<const FA: usize, const FB: usize, const S: usize>(
     how: How,
 )
     requires rows { 0 < count free_a.now }
-    requires places { 0 < count shared.now }
+    requires positions { 0 < count shared.now }
     requires fits { Fits (length a.now) (length b.now) (length to.old)
         free_a.now free_b.now shared.now }
     ensures { Contracted a.now b.now to.old to.new free_a.now free_b.now shared.now how }
@@ -53,22 +53,22 @@ fn through<const FA: usize, const S: usize>(
     requires some_columns { 0 < columns.now.len }
     requires few_columns { columns.now.len ≤ 64 }
     requires filled { IsFilled columns.now }
-    requires places { 0 < count shared.now }
+    requires positions { 0 < count shared.now }
     requires in_a { (i : ℕ) → i < count free_a.now
-        → Reaches offset_a shared.now (offset_a free_a.now (place_at free_a.now i)) (length a.now) }
+        → Reaches offset_a shared.now (offset_a free_a.now (position_at free_a.now i)) (length a.now) }
     requires in_b { (j : ℕ) → j < columns.now.len
         → Reaches offset_b shared.now (slice_index columns.now.b j) (length b.now) }
     requires targets { AreTargets
-        (λ i j. (offset_to free_a.now (place_at free_a.now i) + slice_index columns.now.to j) % 2 ^ 64)
+        (λ i j. (offset_to free_a.now (position_at free_a.now i) + slice_index columns.now.to j) % 2 ^ 64)
         (count free_a.now) columns.now.len (length to.old) }
     ensures { Replaced how
-        (λ i j. (offset_to free_a.now (place_at free_a.now i) + slice_index columns.now.to j) % 2 ^ 64)
-        (λ i j. sum_from a.now b.now shared.now (offset_a free_a.now (place_at free_a.now i))
+        (λ i j. (offset_to free_a.now (position_at free_a.now i) + slice_index columns.now.to j) % 2 ^ 64)
+        (λ i j. sum_from a.now b.now shared.now (offset_a free_a.now (position_at free_a.now i))
         (slice_index columns.now.b j))
         (count free_a.now) columns.now.len to.old to.new }
 {
     let mut panels = [[[0u64; 4]; 64]; 16];
-    let mut places = Walk::start(shared);
+    let mut positions = Walk::start(shared);
     over_part(
         a,
         b,
@@ -76,11 +76,11 @@ fn through<const FA: usize, const S: usize>(
         free_a,
         columns,
         shared,
-        &mut places,
+        &mut positions,
         &mut panels,
         how,
     );
-    while places.left {
+    while positions.left {
         over_part(
             a,
             b,
@@ -88,14 +88,14 @@ fn through<const FA: usize, const S: usize>(
             free_a,
             columns,
             shared,
-            &mut places,
+            &mut positions,
             &mut panels,
             further(how),
         );
     }
 }
 
-// the same over the next shared places, up to 64
+// the same over the next shared positions, up to 64
 fn over_part<const FA: usize, const S: usize>(
     a: &[u64],
     b: &[u64],
@@ -103,33 +103,33 @@ fn over_part<const FA: usize, const S: usize>(
     free_a: &[Axis; FA],
     columns: &Run<64>,
     shared: &[Axis; S],
-    places: &mut Walk<S>,
+    positions: &mut Walk<S>,
     panels: &mut [Panel; 16],
     how: How,
 )
-    requires left { places.old.left ≡ true }
-    requires stands { Stands shared.now places.old }
+    requires left { positions.old.left ≡ true }
+    requires stands { Stands shared.now positions.old }
     requires some_columns { 0 < columns.now.len }
     requires few_columns { columns.now.len ≤ 64 }
     requires filled { IsFilled columns.now }
     requires in_a { (i : ℕ) → i < count free_a.now
-        → Reaches offset_a shared.now (offset_a free_a.now (place_at free_a.now i)) (length a.now) }
+        → Reaches offset_a shared.now (offset_a free_a.now (position_at free_a.now i)) (length a.now) }
     requires in_b { (j : ℕ) → j < columns.now.len
         → Reaches offset_b shared.now (slice_index columns.now.b j) (length b.now) }
     requires targets { AreTargets
-        (λ i j. (offset_to free_a.now (place_at free_a.now i) + slice_index columns.now.to j) % 2 ^ 64)
+        (λ i j. (offset_to free_a.now (position_at free_a.now i) + slice_index columns.now.to j) % 2 ^ 64)
         (count free_a.now) columns.now.len (length to.old) }
-    ensures stands { Stands shared.now places.new }
-    ensures further { gone shared.now places.old < gone shared.now places.new }
-    ensures within { gone shared.now places.new ≤ count shared.now }
+    ensures stands { Stands shared.now positions.new }
+    ensures further { gone shared.now positions.old < gone shared.now positions.new }
+    ensures within { gone shared.now positions.new ≤ count shared.now }
     ensures added { Replaced how
-        (λ i j. (offset_to free_a.now (place_at free_a.now i) + slice_index columns.now.to j) % 2 ^ 64)
-        (λ i j. sum_to (gone shared.now places.new - gone shared.now places.old)
-        (λ k. term_at a.now b.now shared.now (offset_a free_a.now (place_at free_a.now i))
-        (slice_index columns.now.b j) (gone shared.now places.old + k)) % 2 ^ 64)
+        (λ i j. (offset_to free_a.now (position_at free_a.now i) + slice_index columns.now.to j) % 2 ^ 64)
+        (λ i j. sum_to (gone shared.now positions.new - gone shared.now positions.old)
+        (λ k. term_at a.now b.now shared.now (offset_a free_a.now (position_at free_a.now i))
+        (slice_index columns.now.b j) (gone shared.now positions.old + k)) % 2 ^ 64)
         (count free_a.now) columns.now.len to.old to.new }
 {
-    let part = places.run::<64>(shared);
+    let part = positions.run::<64>(shared);
     pack_columns(b, columns, &part, panels);
     down(a, to, free_a, &part, columns, panels, how);
 }
@@ -145,7 +145,7 @@ fn further(how: How) -> How
     }
 }
 
-// all rows, over the shared places of a part
+// all rows, over the shared positions of a part
 fn down<const FA: usize>(
     a: &[u64],
     to: &mut [u64],
@@ -155,18 +155,18 @@ fn down<const FA: usize>(
     panels: &[Panel; 16],
     how: How,
 )
-    requires few_places { part.now.len ≤ 64 }
+    requires few_positions { part.now.len ≤ 64 }
     requires few_columns { columns.now.len ≤ 64 }
     requires in_a { (i k : ℕ) → i < count free_a.now → k < part.now.len
-        → (slice_index part.now.a k + offset_a free_a.now (place_at free_a.now i)) % 2 ^ 64
+        → (slice_index part.now.a k + offset_a free_a.now (position_at free_a.now i)) % 2 ^ 64
         < length a.now }
     requires targets { AreTargets
-        (λ i j. (offset_to free_a.now (place_at free_a.now i) + slice_index columns.now.to j) % 2 ^ 64)
+        (λ i j. (offset_to free_a.now (position_at free_a.now i) + slice_index columns.now.to j) % 2 ^ 64)
         (count free_a.now) columns.now.len (length to.old) }
     ensures { Replaced how
-        (λ i j. (offset_to free_a.now (place_at free_a.now i) + slice_index columns.now.to j) % 2 ^ 64)
+        (λ i j. (offset_to free_a.now (position_at free_a.now i) + slice_index columns.now.to j) % 2 ^ 64)
         (λ i j. sum_to part.now.len (λ k. slice_index a.now
-        ((slice_index part.now.a k + offset_a free_a.now (place_at free_a.now i)) % 2 ^ 64)
+        ((slice_index part.now.a k + offset_a free_a.now (position_at free_a.now i)) % 2 ^ 64)
         * column_entry panels.now k j) % 2 ^ 64)
         (count free_a.now) columns.now.len to.old to.new }
 {
@@ -186,23 +186,23 @@ fn along(
     columns: &Run<64>,
     packed: &Panel,
     panels: &[Panel; 16],
-    places: usize,
+    positions: usize,
     how: How,
 )
     requires few_rows { rows.now.len ≤ 4 }
     requires few_columns { columns.now.len ≤ 64 }
-    requires few_places { places ≤ 64 }
+    requires few_positions { positions ≤ 64 }
     requires targets { AreTargets
         (λ i j. (slice_index rows.now.to i + slice_index columns.now.to j) % 2 ^ 64)
         rows.now.len columns.now.len (length to.old) }
     ensures { Replaced how
         (λ i j. (slice_index rows.now.to i + slice_index columns.now.to j) % 2 ^ 64)
-        (λ i j. sum_to places (λ k. entry packed.now k i * column_entry panels.now k j) % 2 ^ 64)
+        (λ i j. sum_to positions (λ k. entry packed.now k i * column_entry panels.now k j) % 2 ^ 64)
         rows.now.len columns.now.len to.old to.new }
 {
     for q in 0..16usize {
         if 4 * q < columns.len {
-            let sums = panel_sums(&packed[..places], &panels[q][..places]);
+            let sums = panel_sums(&packed[..positions], &panels[q][..positions]);
             store(to, rows, &columns.four(4 * q), &sums, how);
         }
     }

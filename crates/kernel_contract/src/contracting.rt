@@ -10,10 +10,25 @@ use crate::laws::contract_plain;
 use crate::tiled::by_tiles;
 use kernel_permute::How;
 
-/// Contracts `a` and `b` along the shared axes, for each place of the free axes.
+/// Contracts `a` and `b` along the shared axes: for each position m of `free_a` and each position i of `free_b`,
+///
+///     to[m, i] = how(to[m, i], sum over the positions l of `shared` of a[m, l] * b[l, i])     modulo 2^64
+///
+/// A position has one number for each axis, below its length. Where its element lies in an operand is the sum of these
+/// numbers, each times the axis's stride there; an axis that an operand doesn't have has stride 0 in it. Lengths and
+/// strides count elements. A block lies with its last dimension fastest: that one has stride 1, and each other has the
+/// product of the lengths of those behind it.
+///
+/// For `p(m,i) = v(m,l) * t(l,i)`, with M, I and L elements along the indices:
+///
+///     free_a: [Axis { len: M, a: L, b: 0, to: I }]
+///     free_b: [Axis { len: I, a: 0, b: 1, to: 1 }]
+///     shared: [Axis { len: L, a: 1, b: I, to: 0 }]
+///
+/// The condition is that all elements lie in their operands, and that those of the target differ.
 ///
 /// A large contraction packs parts of both operands once and uses them for all rows and columns, a small
-/// one goes over its places in runs of up to four, and one with few rows or few columns number by number.
+/// one goes over its positions in runs of up to four, and one with few rows or few columns number by number.
 pub fn contract<const FA: usize, const FB: usize, const S: usize>(
     a: &[u64],
     b: &[u64],
@@ -38,16 +53,16 @@ pub fn contract<const FA: usize, const FB: usize, const S: usize>(
 }
 
 // Panels cost some thousand writes before the first product.
-fn pays(rows: u64, columns: u64, places: u64) -> bool
+fn pays(rows: u64, columns: u64, positions: u64) -> bool
     ensures rows { IsTrue result → 0 < rows }
-    ensures places { IsTrue result → 0 < places }
+    ensures positions { IsTrue result → 0 < positions }
 {
-    rows >= 1 && places >= 1 && rows.saturating_mul(columns).saturating_mul(places) >= LEAST
+    rows >= 1 && positions >= 1 && rows.saturating_mul(columns).saturating_mul(positions) >= LEAST
 }
 
 const LEAST: u64 = 4096;
 
-// how many places there are, as far as a `u64` goes
+// how many positions there are, as far as a `u64` goes
 fn size(axes: &[Axis]) -> u64
     ensures { result ≡ min (count axes.now) (2 ^ 64 - 1) }
 {

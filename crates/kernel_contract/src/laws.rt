@@ -4,8 +4,8 @@
 ghost use Rattle.std.specs.Prelude.{◌≡◌, ◌+◌, ◌%◌, ◌^◌, ◌<◌, ◌≤◌, ℕ, length};
 ghost use Rattle.kernel_contract.specs.Contraction.{Contracted, Fits};
 ghost use Rattle.kernel_contract.specs.Parts.{AreTargets, Reaches, Replaced, sum_from};
-ghost use Rattle.kernel_contract.specs.Places.{offset_a, offset_b, offset_to};
-ghost use Rattle.kernel_contract.specs.Walks.{count, place_at};
+ghost use Rattle.kernel_contract.specs.Positions.{offset_a, offset_b, offset_to};
+ghost use Rattle.kernel_contract.specs.Walks.{count, position_at};
 
 use crate::axis::Axis;
 use crate::line::sum_along;
@@ -47,14 +47,14 @@ fn plain_row<const FB: usize, const S: usize>(
     requires in_a { (j : ℕ) → j < count free_b.now
         → Reaches offset_a shared.now row.a (length a.now) }
     requires in_b { (j : ℕ) → j < count free_b.now
-        → Reaches offset_b shared.now (offset_b free_b.now (place_at free_b.now j)) (length b.now) }
+        → Reaches offset_b shared.now (offset_b free_b.now (position_at free_b.now j)) (length b.now) }
     requires targets { AreTargets
-        (λ i j. (row.to + offset_to free_b.now (place_at free_b.now j)) % 2 ^ 64)
+        (λ i j. (row.to + offset_to free_b.now (position_at free_b.now j)) % 2 ^ 64)
         1 (count free_b.now) (length to.old) }
     ensures { Replaced how
-        (λ i j. (row.to + offset_to free_b.now (place_at free_b.now j)) % 2 ^ 64)
+        (λ i j. (row.to + offset_to free_b.now (position_at free_b.now j)) % 2 ^ 64)
         (λ i j. sum_from a.now b.now shared.now row.a
-        (offset_b free_b.now (place_at free_b.now j)))
+        (offset_b free_b.now (position_at free_b.now j)))
         1 (count free_b.now) to.old to.new }
 {
     let mut column = Walk::start(free_b);

@@ -1,13 +1,13 @@
-//! The sum of products over all shared places, axis by axis.
+//! The sum of products over all shared positions, axis by axis.
 
 ghost use Rattle.std.specs.Prelude.{◌≡◌, ◌+◌, ◌∷◌, [], length};
 ghost use Rattle.kernel_contract.specs.Parts.{Reaches, sum_from};
-ghost use Rattle.kernel_contract.specs.Places.{offset_a, offset_b};
+ghost use Rattle.kernel_contract.specs.Positions.{offset_a, offset_b};
 
 use crate::axis::Axis;
 use crate::packing::number_at;
 
-/// The sum, from two offsets on, of the products over the places of all axes.
+/// The sum, from two offsets on, of the products over the positions of all axes.
 pub fn sum_along(a: &[u64], b: &[u64], from_a: usize, from_b: usize, shared: &[Axis]) -> u64
     requires in_a { Reaches offset_a shared.now from_a (length a.now) }
     requires in_b { Reaches offset_b shared.now from_b (length b.now) }

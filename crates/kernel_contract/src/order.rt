@@ -6,8 +6,8 @@ ghost use Rattle.kernel_contract.specs.Order.{by_rows, greatest, keeps_apart, ne
 
 use crate::axis::Axis;
 
-/// Whether all places lie in slices of these lengths, and the target lies by rows: its axes taken by
-/// falling stride, each has one place, or a longer stride than what the axes after it reach.
+/// Whether all positions lie in slices of these lengths, and the target lies by rows: its axes taken by
+/// falling stride, each has one position, or a longer stride than what the axes after it reach.
 ///
 /// Each list is to be given by falling stride in the target; the axes of one may lie between those of
 /// the other. A contraction may fit where this is false, since a target need not lie by rows.
@@ -61,7 +61,7 @@ impl Side {
     }
 }
 
-// the greatest offset of a place, as far as a `u64` goes
+// the greatest offset of a position, as far as a `u64` goes
 fn longest(axes: &[Axis], side: Side) -> u64
     ensures { result ≡ min (greatest (stride_in side) axes.now) (2 ^ 64 - 1) }
 {
@@ -82,14 +82,14 @@ fn reach(first: &[Axis], second: &[Axis], side: Side) -> u64
     longest(first, side).saturating_add(longest(second, side))
 }
 
-// whether an axis keeps its places apart in the target, wherever the other axes stand
+// whether an axis keeps its positions apart in the target, wherever the other axes stand
 fn keeps_apart(axis: &Axis, first: &[Axis], second: &[Axis]) -> bool
     ensures { result ≡ keeps_apart axis.now first.now second.now }
 {
     axis.len < 2 || reach(first, second, Side::To) < axis.to as u64
 }
 
-// whether, taken by falling stride, each axis keeps its places apart
+// whether, taken by falling stride, each axis keeps its positions apart
 fn is_nested(first: &[Axis], second: &[Axis]) -> bool
     ensures { result ≡ nested first.now second.now }
 {

@@ -1,4 +1,4 @@
-//! Panels: the numbers of four rows, or of four columns, at each shared place of a part.
+//! Panels: the numbers of four rows, or of four columns, at each shared position of a part.
 
 ghost use Rattle.std.specs.Prelude.{◌≡◌, ◌+◌, ◌*◌, ◌%◌, ◌^◌, ◌<◌, ◌≤◌, ℕ, length, slice_index};
 ghost use Rattle.kernel_contract.specs.Panels.{IsPanel, ArePanels, Loads};
@@ -9,29 +9,32 @@ ghost use Rattle.kernel_contract.specs.Walks.{IsFilled};
 use crate::packing::packed_row;
 use crate::run::Run;
 
-/// The most shared places of a part.
-pub const DEPTH: usize = 64;
-
-/// The numbers of four rows, or of four columns, at each place of a part.
+/// The numbers of four rows, or of four columns, at each position of a part.
 pub type Panel = [[u64; 4]; 64];
 
-/// Packs the panel of four offsets at the places of a part.
-pub fn pack(from: &[u64], lanes: &[usize; 4], places: &[usize; 64], len: usize, panel: &mut Panel)
+/// Packs the panel of four offsets at the positions of a part.
+pub fn pack(
+    from: &[u64],
+    lanes: &[usize; 4],
+    positions: &[usize; 64],
+    len: usize,
+    panel: &mut Panel,
+)
     requires few { len ≤ 64 }
-    requires within { Loads lanes.now places.now 4 len (length from.now) }
-    ensures { IsPanel from.now lanes.now places.now len panel.new }
+    requires within { Loads lanes.now positions.now 4 len (length from.now) }
+    ensures { IsPanel from.now lanes.now positions.now len panel.new }
 {
     for k in 0..len {
-        panel[k] = packed_row(from, places[k], lanes);
+        panel[k] = packed_row(from, positions[k], lanes);
     }
 }
 
-/// Packs a panel for each four columns at the places of a part.
+/// Packs a panel for each four columns at the positions of a part.
 pub fn pack_columns(from: &[u64], columns: &Run<64>, part: &Run<64>, panels: &mut [Panel; 16])
     requires some { 0 < columns.now.len }
     requires few { columns.now.len ≤ 64 }
     requires filled { IsFilled columns.now }
-    requires few_places { part.now.len ≤ 64 }
+    requires few_positions { part.now.len ≤ 64 }
     requires within { Loads columns.now.b part.now.b columns.now.len part.now.len (length from.now) }
     ensures { ArePanels from.now columns.now.b part.now.b columns.now.len part.now.len panels.new }
 {
@@ -48,20 +51,20 @@ pub fn pack_columns(from: &[u64], columns: &Run<64>, part: &Run<64>, panels: &mu
     }
 }
 
-/// The sum of the products of each row of one panel with each column of another, over all places.
+/// The sum of the products of each row of one panel with each column of another, over all positions.
 pub fn panel_sums(a: &[[u64; 4]], b: &[[u64; 4]]) -> [[u64; 4]; 4]
     requires { length a.now ≡ length b.now }
     ensures { (i j : ℕ) → i < 4 → j < 4 → entry result i j
         ≡ sum_to (length a.now) (λ k. entry a.now k i * entry b.now k j) % 2 ^ 64 }
 {
     let mut sums = [[0u64; 4]; 4];
-    for (place, rows) in a.iter().enumerate() {
-        sums = with_products(&sums, rows, &b[place]);
+    for (position, rows) in a.iter().enumerate() {
+        sums = with_products(&sums, rows, &b[position]);
     }
     sums
 }
 
-// sums with the products of all rows and all columns at one place
+// sums with the products of all rows and all columns at one position
 fn with_products(sums: &[[u64; 4]; 4], rows: &[u64; 4], columns: &[u64; 4]) -> [[u64; 4]; 4]
     ensures { (i j : ℕ) → i < 4 → j < 4 → entry result i j
         ≡ (entry sums.now i j + slice_index rows.now i * slice_index columns.now j % 2 ^ 64) % 2 ^ 64 }

@@ -1,14 +1,14 @@
-//! So many places in a row, by their offsets.
+//! So many positions in a row, by their offsets.
 
 ghost use Rattle.std.specs.Prelude.{◌≡◌, ◌+◌, ◌-◌, ◌<◌, ◌≤◌, ℕ, length, min, replicate, slice_index, slice_set};
 
 use crate::walk::Offsets;
 
-/// The offsets of up to `N` places in the two sources and in the target. Those of the first fill
+/// The offsets of up to `N` positions in the two sources and in the target. Those of the first fill
 /// the rest of the arrays, so that all `N` can be read.
 #[derive(Clone, Copy)]
 pub struct Run<const N: usize> {
-    /// How many places there are.
+    /// How many positions there are.
     pub len: usize,
     /// Their offsets in the first source.
     pub a: [usize; N],
@@ -19,7 +19,7 @@ pub struct Run<const N: usize> {
 }
 
 impl<const N: usize> Run<N> {
-    /// One place, whose offsets fill the arrays.
+    /// One position, whose offsets fill the arrays.
     pub fn of(at: Offsets) -> Run<N>
         ensures len { result.len ≡ 1 }
         ensures a { result.a ≡ replicate N at.a }
@@ -34,7 +34,7 @@ impl<const N: usize> Run<N> {
         }
     }
 
-    /// Adds a place.
+    /// Adds a position.
     pub fn push(&mut self, at: Offsets)
         requires { self.old.len < N }
         ensures len { self.new.len ≡ self.old.len + 1 }
@@ -48,7 +48,7 @@ impl<const N: usize> Run<N> {
         self.len += 1;
     }
 
-    /// Four places from one on, as many of them as there are.
+    /// Four positions from one on, as many of them as there are.
     pub fn four(&self, at: usize) -> Run<4>
         requires within { at + 4 ≤ N }
         requires some { at < self.now.len }

@@ -2,7 +2,7 @@
 
 ghost use Rattle.std.specs.Prelude.{◌≡◌, ◌+◌, ◌≤◌, ◌-◌, ◌++◌, length, replicate};
 ghost use Rattle.kernel_contract.specs.Contraction.{Contracted, Fits};
-ghost use Rattle.kernel_contract.specs.Places.{filled_up};
+ghost use Rattle.kernel_contract.specs.Positions.{filled_up};
 
 use crate::axis::Axis;
 use crate::contracting::contract;
@@ -32,7 +32,7 @@ pub fn contract_any(
     }
 }
 
-// with axes of one place in front of each list, so that each has `N`
+// with axes of one position in front of each list, so that each has `N`
 fn contract_filled<const N: usize>(
     a: &[u64],
     b: &[u64],

@@ -19,11 +19,31 @@ pub fn store(to: &mut [u64], rows: &Run<4>, columns: &Run<4>, values: &[[u64; 4]
         (λ i j. (slice_index rows.now.to i + slice_index columns.now.to j) % 2 ^ 64)
         (entry values.now) rows.now.len columns.now.len to.old to.new }
 {
+    // One loop for each way, so that the way is not looked at for each number.
+    match how {
+        How::Set => store_rows(to, rows, columns, values, How::Set),
+        How::Add => store_rows(to, rows, columns, values, How::Add),
+        How::Subtract => store_rows(to, rows, columns, values, How::Subtract),
+    }
+}
+
+#[inline(always)]
+fn store_rows(to: &mut [u64], rows: &Run<4>, columns: &Run<4>, values: &[[u64; 4]; 4], how: How)
+    requires few_rows { rows.now.len ≤ 4 }
+    requires few_columns { columns.now.len ≤ 4 }
+    requires targets { AreTargets
+        (λ i j. (slice_index rows.now.to i + slice_index columns.now.to j) % 2 ^ 64)
+        rows.now.len columns.now.len (length to.old) }
+    ensures { Replaced how
+        (λ i j. (slice_index rows.now.to i + slice_index columns.now.to j) % 2 ^ 64)
+        (entry values.now) rows.now.len columns.now.len to.old to.new }
+{
     for i in 0..rows.len {
         store_row(to, rows.to[i], columns, &values[i], how);
     }
 }
 
+#[inline(always)]
 fn store_row(to: &mut [u64], row: usize, columns: &Run<4>, values: &[u64; 4], how: How)
     requires few_columns { columns.now.len ≤ 4 }
     requires targets { AreTargets (λ i j. (row + slice_index columns.now.to j) % 2 ^ 64)

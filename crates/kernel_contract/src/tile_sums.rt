@@ -1,8 +1,8 @@
-//! The sums of one tile of the target, over all shared places.
+//! The sums of one tile of the target, over all shared positions.
 
 ghost use Rattle.std.specs.Prelude.{◌≡◌, ◌+◌, ◌%◌, ◌^◌, ◌<◌, ◌≤◌, ℕ, length, slice_index};
 ghost use Rattle.kernel_contract.specs.Parts.{Reaches, sum_from};
-ghost use Rattle.kernel_contract.specs.Places.{offset_a, offset_b};
+ghost use Rattle.kernel_contract.specs.Positions.{offset_a, offset_b};
 ghost use Rattle.kernel_contract.specs.Product.{entry};
 ghost use Rattle.kernel_contract.specs.Walks.{IsFilled};
 

@@ -1,13 +1,13 @@
-//! Walks over all places of a list of axes, the last axis fastest.
+//! Walks over all positions of a list of axes, the last axis fastest.
 
 ghost use Rattle.std.specs.Prelude.{◌≡◌, ◌+◌, ◌*◌, ◌%◌, ◌^◌, ◌<◌, ◌≤◌, true};
 ghost use Rattle.std.specs.List.{list_all};
-ghost use Rattle.kernel_contract.specs.Walks.{AreOffsets, IsRun, Stands, count, gone, is_long, place_at};
+ghost use Rattle.kernel_contract.specs.Walks.{AreOffsets, IsRun, Stands, count, gone, is_long, position_at};
 
 use crate::axis::Axis;
 use crate::run::Run;
 
-/// The offsets of a place in the two sources and in the target, modulo 2^64.
+/// The offsets of a position in the two sources and in the target, modulo 2^64.
 #[derive(Clone, Copy)]
 pub struct Offsets {
     pub a: usize,
@@ -16,7 +16,7 @@ pub struct Offsets {
 }
 
 impl Offsets {
-    // of the place whose numbers are zeros
+    // of the position whose numbers are zeros
     const ORIGIN: Offsets = Offsets { a: 0, b: 0, to: 0 };
 
     // so many steps further along an axis
@@ -46,36 +46,36 @@ impl Offsets {
     }
 }
 
-/// A place among those of `R` axes, or the end.
+/// A position among those of `R` axes, or the end.
 #[derive(Clone, Copy)]
 pub struct Walk<const R: usize> {
-    /// Whether it stands at a place.
+    /// Whether it stands at a position.
     pub left: bool,
-    /// The place's number at each axis.
+    /// The position's number at each axis.
     pub at: [u32; R],
-    /// The place's offsets.
+    /// The position's offsets.
     pub offsets: Offsets,
 }
 
 impl<const R: usize> Walk<R> {
-    /// The first place, or the end where there is none.
+    /// The first position, or the end where there is none.
     pub fn start(axes: &[Axis; R]) -> Walk<R>
         ensures stands { Stands axes.now result }
         ensures gone { gone axes.now result ≡ 0 }
     {
         Walk {
-            left: has_places(axes),
+            left: has_positions(axes),
             at: [0; R],
             offsets: Offsets::ORIGIN,
         }
     }
 
-    /// The offsets of the place, which it leaves for the next one or the end.
+    /// The offsets of the position, which it leaves for the next one or the end.
     pub fn step(&mut self, axes: &[Axis; R]) -> Offsets
         requires left { self.old.left ≡ true }
         requires stands { Stands axes.now self.old }
         ensures stands { Stands axes.now self.new }
-        ensures offsets { AreOffsets axes.now (place_at axes.now (gone axes.now self.old)) result }
+        ensures offsets { AreOffsets axes.now (position_at axes.now (gone axes.now self.old)) result }
         ensures gone { gone axes.now self.new ≡ gone axes.now self.old + 1 }
         ensures within { gone axes.now self.new ≤ count axes.now }
     {
@@ -84,7 +84,7 @@ impl<const R: usize> Walk<R> {
         here
     }
 
-    // goes on to the next place, or to the end
+    // goes on to the next position, or to the end
     fn advance(&mut self, axes: &[Axis; R])
         requires left { self.old.left ≡ true }
         requires stands { Stands axes.now self.old }
@@ -107,7 +107,7 @@ impl<const R: usize> Walk<R> {
         self.left = false;
     }
 
-    /// The next places, up to `N`.
+    /// The next positions, up to `N`.
     pub fn run<const N: usize>(&mut self, axes: &[Axis; R]) -> Run<N>
         requires some { 0 < N }
         requires left { self.old.left ≡ true }
@@ -125,8 +125,8 @@ impl<const R: usize> Walk<R> {
     }
 }
 
-// whether there is a place at all
-fn has_places(axes: &[Axis]) -> bool
+// whether there is a position at all
+fn has_positions(axes: &[Axis]) -> bool
     ensures { result ≡ list_all is_long axes.now }
 {
     axes.iter().all(|axis| axis.len > 0)

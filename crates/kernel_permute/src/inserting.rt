@@ -10,7 +10,13 @@ use crate::how::How;
 use crate::part::{Part, parts_of, row_size, row_width};
 use crate::rows::meet_row;
 
-/// The source becomes the part of the target that begins at `at`; the rest of the target stays.
+/// Puts a block into a part of another: the one that begins at `at` and is as large as the source. The rest stays.
+///
+///     to[at + p] = how(to[at + p], from[p])     for each position p of the source, dimension by dimension
+///
+/// `size` are the source's lengths, `dims` the target's, in elements; the part lies within the target. Both blocks lie
+/// with their last dimension fastest. Two rows into rows 1 and 2 of a block of 4 by 3: `size` is `[2, 3]`, `dims` is
+/// `[4, 3]`, `at` is `[1, 0]`.
 pub fn put_in<const R: usize>(
     from: &[u64],
     size: &[u32; R],

@@ -9,7 +9,13 @@ use crate::how::How;
 use crate::strided::read;
 use crate::strides::strides;
 
-/// Dimension k of the target is dimension `order[k]` of the source.
+/// Copies a block with its dimensions in another order: dimension k of the target is dimension `order[k]` of the source.
+///
+///     to[p] = how(to[p], from[q])     where p[k] = q[order[k]] for each dimension k
+///
+/// `dims` are the source's lengths, in elements. Both blocks lie with their last dimension fastest, and are as long as
+/// the product of their lengths. For `t(j,i) = s(i,j)` with 2 by 3 elements in `s`: `dims` is `[2, 3]`, `order` is
+/// `[1, 0]`, and `t` has 3 by 2.
 pub fn permute<const R: usize>(
     from: &[u64],
     dims: &[u32; R],

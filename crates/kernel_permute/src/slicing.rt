@@ -9,7 +9,13 @@ use crate::how::How;
 use crate::part::{Part, parts_of, row_size, row_width};
 use crate::rows::meet_row;
 
-/// The target is the part of the source that begins at `at` and has the size of the target.
+/// Takes a part out of a block: the one that begins at `at` and has `size` elements along each dimension.
+///
+///     to[p] = how(to[p], from[at + p])     for each position p of the part, dimension by dimension
+///
+/// `dims` are the source's lengths, `size` the target's, in elements; the part lies within the source. Both blocks lie
+/// with their last dimension fastest. Rows 1 and 2 of a block of 4 by 3: `dims` is `[4, 3]`, `at` is `[1, 0]`, `size` is
+/// `[2, 3]`.
 pub fn slice_out<const R: usize>(
     from: &[u64],
     dims: &[u32; R],

@@ -107,9 +107,9 @@ impl Worker {
 
 // Takes a slot of zeros for an empty place, where one is free.
 pub fn take_at(pool: &mut Pool, class: u32, blocks: &mut [Option<Owned>], at: usize)
-    requires holds { Holds pool.old State.Own blocks.old }
+    requires holds { Holds pool.old State.Owned blocks.old }
     requires at { at < length blocks.old }
-    ensures holds { Holds pool.new State.Own blocks.new }
+    ensures holds { Holds pool.new State.Owned blocks.new }
     ensures frame { Frames pool.old pool.new blocks.old blocks.new }
     ensures others { FramesAll pool.old pool.new blocks.old }
     ensures wide { (class width : ℕ) → HasWidth pool.old class width → HasWidth pool.new class width }
@@ -132,11 +132,11 @@ pub fn deliver(
     how: How,
 )
     requires worker { StandsIn pool.old worker.now.blocks [] (worker.now.cached ∷ []) (worker.now.put ∷ []) }
-    requires home { Holds pool.old State.Own home.now }
+    requires home { Holds pool.old State.Owned home.now }
     requires apart { NoShared worker.now.blocks home.now }
     requires at { at < length home.now }
     ensures worker { StandsIn pool.new worker.now.blocks [] (worker.now.cached ∷ []) (worker.now.put ∷ []) }
-    ensures home { Holds pool.new State.Own home.now }
+    ensures home { Holds pool.new State.Owned home.now }
 {
     if let Some(from) = &worker.put {
         if let Some(into) = &home[at] {
@@ -149,11 +149,11 @@ pub fn deliver(
 }
 
 fn meet(pool: &mut Pool, from: &Sending, into: &Owned, len: u32, how: How)
-    requires from { Stands pool.old State.Send from.now }
-    requires into { Stands pool.old State.Own into.now }
+    requires from { Stands pool.old State.Sending from.now }
+    requires into { Stands pool.old State.Owned into.now }
     requires from_len { len ≤ length (words_at pool.old.words from.now) }
     requires into_len { len ≤ length (words_at pool.old.words into.now) }
-    ensures { Writes pool.old pool.new into.now State.Own (mixed how len (words_at pool.old.words into.now) (words_at pool.old.words from.now)) }
+    ensures { Writes pool.old pool.new into.now State.Owned (mixed how len (words_at pool.old.words into.now) (words_at pool.old.words from.now)) }
 {
     match how {
         How::Set => pool.set_within(from, into, len),
@@ -178,7 +178,7 @@ pub fn close(worker: Worker, pool: &mut Pool)
 }
 
 pub fn end_blocks(pool: &mut Pool, blocks: [Option<Owned>; 2])
-    requires { Holds pool.old State.Own blocks }
+    requires { Holds pool.old State.Owned blocks }
     ensures { Frames pool.old pool.new blocks [] }
 {
     let [first, second] = blocks;
@@ -186,7 +186,7 @@ pub fn end_blocks(pool: &mut Pool, blocks: [Option<Owned>; 2])
 }
 
 fn end_both(pool: &mut Pool, first: Option<Owned>, second: Option<Owned>)
-    requires { Holds pool.old State.Own (first ∷ second ∷ []) }
+    requires { Holds pool.old State.Owned (first ∷ second ∷ []) }
     ensures { Frames pool.old pool.new (first ∷ second ∷ []) [] }
 {
     end_block(pool, second);
@@ -194,7 +194,7 @@ fn end_both(pool: &mut Pool, first: Option<Owned>, second: Option<Owned>)
 }
 
 fn end_block(pool: &mut Pool, place: Option<Owned>)
-    requires { ForSome place (Stands pool.old State.Own) }
+    requires { ForSome place (Stands pool.old State.Owned) }
     ensures some { ForSome place (λ slot. Writes pool.old pool.new slot State.Free (words_at pool.old.words slot)) }
     ensures none { IfNone place (pool.new ≡ pool.old) }
 {
@@ -204,7 +204,7 @@ fn end_block(pool: &mut Pool, place: Option<Owned>)
 }
 
 fn end_cached(pool: &mut Pool, place: Option<Cached>)
-    requires { ForSome place (Stands pool.old State.Keep) }
+    requires { ForSome place (Stands pool.old State.Cached) }
     ensures some { ForSome place (λ slot. Writes pool.old pool.new slot State.Free (words_at pool.old.words slot)) }
     ensures none { IfNone place (pool.new ≡ pool.old) }
 {
@@ -214,7 +214,7 @@ fn end_cached(pool: &mut Pool, place: Option<Cached>)
 }
 
 fn end_put(pool: &mut Pool, place: Option<Sending>)
-    requires { ForSome place (Stands pool.old State.Send) }
+    requires { ForSome place (Stands pool.old State.Sending) }
     ensures some { ForSome place (λ slot. Writes pool.old pool.new slot State.Free (words_at pool.old.words slot)) }
     ensures none { IfNone place (pool.new ≡ pool.old) }
 {
@@ -226,11 +226,11 @@ fn end_put(pool: &mut Pool, place: Option<Sending>)
 // The worker takes, writes, sends and asks, beside a home in the same pool.
 pub fn work(worker: &mut Worker, home: &[Option<Owned>], pool: &mut Pool)
     requires worker { StandsIn pool.old worker.old.blocks [] (worker.old.cached ∷ []) (worker.old.put ∷ []) }
-    requires home { Holds pool.old State.Own home.now }
+    requires home { Holds pool.old State.Owned home.now }
     requires apart { NoShared worker.old.blocks home.now }
     requires wide { HasWidth pool.old 16 2 }
     ensures worker { StandsIn pool.new worker.new.blocks [] (worker.new.cached ∷ []) (worker.new.put ∷ []) }
-    ensures home { Holds pool.new State.Own home.now }
+    ensures home { Holds pool.new State.Owned home.now }
     ensures apart { NoShared worker.new.blocks home.now }
 {
     worker.take(pool, 16, 0);
@@ -241,7 +241,7 @@ pub fn work(worker: &mut Worker, home: &[Option<Owned>], pool: &mut Pool)
 
 // The words of a block by place.
 pub fn words_of<'a>(pool: &'a Pool, blocks: &[Option<Owned>], at: usize) -> Option<&'a [u64]>
-    requires holds { Holds pool.now State.Own blocks.now }
+    requires holds { Holds pool.now State.Owned blocks.now }
     requires at { at < length blocks.now }
 {
     match &blocks[at] {

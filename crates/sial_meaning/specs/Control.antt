@@ -62,10 +62,11 @@ abbrev pub went_within : Setting → (more : Bool) → PardoAt → (number : ℕ
 went_within g true pardo number rest own = taken g pardo number rest own
 went_within g false pardo number rest own = Goes rest (left g pardo.indices own)
 
--- the loop and the pardo that a statement at an instruction is
+-- the loop that a statement at an instruction is
 abbrev pub loop_at : (at index : ℕ) → Block → LoopAt
 loop_at at index body = record { at = at + 1 + sizes body; head = at; index = index; body = body }
 
+-- the pardo that a statement at an instruction is
 abbrev pub pardo_at : (at : ℕ) → List ℕ → List Cond → Block → PardoAt
 pardo_at at indices wheres body = record { at = at + 1 + length wheres + sizes body; head = at; indices = indices; wheres = wheres; body = body }
 

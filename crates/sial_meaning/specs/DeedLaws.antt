@@ -40,5 +40,6 @@ pub record CourseIsItsDeeds (g : Setting) (t : ℕ) : Type 0 where
   pub log : (course g t).work.state.log ≡ touches (deeds_before g t)
   pub traps : (course g t).traps ≡ traps (deeds_before g t)
 
+-- so for each point of the course of a granted program
 abbrev pub CoursesAreTheirDeeds : Type 0
 CoursesAreTheirDeeds = (g : Setting) → IsGrantedSetting g → (t : ℕ) → CourseIsItsDeeds g t

@@ -113,13 +113,15 @@ JoinsReadBack bin f =
     → word_at (assigned_block g values to old op (Joined (Shown (shown g values a left)) bin (Shown (shown g values b right)))) tuple
     ≡ combined op (word_at (shown g values to old) tuple) (f (word_under to.at tuple (shown g values a left)) (word_under to.at tuple (shown g values b right)))
 
--- sums, differences and outer products in a granted program
+-- sums in a granted program
 abbrev pub SumsReadBack : Type 0
 SumsReadBack = JoinsReadBack Plus plus
 
+-- differences in a granted program
 abbrev pub DifferencesReadBack : Type 0
 DifferencesReadBack = JoinsReadBack Minus minus
 
+-- outer products in a granted program
 abbrev pub OuterProductsReadBack : Type 0
 OuterProductsReadBack = JoinsReadBack Outer times
 

@@ -1,6 +1,6 @@
 -- Numbers and lines at their bounds.
 use Rattle.std.proofs.Common.{refl}
-use Rattle.sial_meaning.proofs.PairLemmas.{never}
+use Rattle.sial_meaning.proofs.AcceptedInOtherWords.Pairs.{never}
 use Rattle.sial_worked.specs.Bounds.{edge, NumbersAreBounded, ConstantsAreAnInputs}
 use Rattle.sial_worked.proofs.SoundLemmas.{proper-by}
 

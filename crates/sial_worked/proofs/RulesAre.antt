@@ -7,7 +7,7 @@ use Rattle.sial_worked.specs.OtherSpaces.{SpacesAreRefused}
 use Rattle.sial_worked.specs.Part.{PartIsRefused}
 use Rattle.sial_worked.specs.Small.{small_program, SmallIsProper}
 use Rattle.sial_worked.proofs.SoundLemmas.{proper-by}
-use Rattle.sial_meaning.proofs.PairLemmas.{never}
+use Rattle.sial_meaning.proofs.AcceptedInOtherWords.Pairs.{never}
 
 pub part-is-refused : PartIsRefused
 part-is-refused = record { shapes = refl; sides = refl; classes = refl }

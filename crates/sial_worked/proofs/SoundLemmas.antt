@@ -22,7 +22,7 @@ use Rattle.sial_meaning.specs.Sound.{IsSound, is_start, given_twice}
 use Rattle.sial_meaning.specs.Accepted.{Refusal, first_refusal}
 use Rattle.sial_meaning.specs.Meaning.{sequential}
 use Rattle.sial_worked.specs.Runs.{Final, Run, final_of}
-use Rattle.sial_meaning.proofs.PairLemmas.{first-holds, second-holds, not-so}
+use Rattle.sial_meaning.proofs.AcceptedInOtherWords.Pairs.{first-holds, second-holds, not-so}
 
 -- whether all of a row of tests hold
 abbrev pub hold : List Bool → Bool

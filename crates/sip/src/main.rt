@@ -2,7 +2,7 @@
 #![tactic(auto)]
 
 ghost use Rattle.std.specs.Prelude.{◌≡◌, ◌≢◌};
-ghost use Rattle.sip_driver.specs.Top.{Says, line_of};
+ghost use Rattle.sip_driver.specs.Says.{Says, line_of};
 
 use either::{Either, Left, Right};
 use sip_driver::{Status, sip};
@@ -32,7 +32,7 @@ fn words(rt: &HostRuntime) -> io::Result<Vec<String>> {
 fn refuse<K: Sink>(err: &mut K, kind: ErrorKind) -> Status
     ensures memory { kind ≡ ErrorKind.OutOfMemory → result.0 ≡ 13 }
     ensures usage { kind ≢ ErrorKind.OutOfMemory → result.0 ≡ 1 }
-    ensures line { Says (K.written err.old) (K.written err.new) (K.faults err.old) (K.faults err.new) (line_of result.0) }
+    ensures line { Says K.written K.faults err.old err.new (line_of result.0) }
 {
     if kind == ErrorKind::OutOfMemory {
         let _ = err.write(b"sip: memory\n");

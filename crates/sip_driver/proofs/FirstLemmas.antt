@@ -13,7 +13,7 @@ use Rattle.sial_syntax.specs.declared.index.Range.TheVariants.{Segments}
 use Rattle.sial_syntax.specs.Tree.{Tree}
 use Rattle.sip_driver.specs.declared.first.First.{First}
 use Rattle.sip_driver.specs.Built.{built, only_if}
-use Rattle.sip_driver.specs.First.{Path, seen, IsPath, IsRange}
+use Rattle.sip_driver.specs.First.{FirstProgram, seen, IsFirstProgram, IsRange}
 use Rattle.sip_driver.specs.Lines.{Line, IsTextOf, spelled, is_sound}
 use Rattle.sip_driver.specs.Profile.{IsFirst}
 use Rattle.sip_driver.specs.Reading.{first_in, tree_in, tree_of_lines, lengths_in, lines_in, is_range, are_ranges}
@@ -54,7 +54,7 @@ found_with p i t lengths e f r =
       ranges = ranges_are (length lengths) t.indices r;
     }
 
-found_in : (p i : List ℕ) (path : Path) → first_in p i ≡ Some path → IsFirst p i path
+found_in : (p i : List ℕ) (path : FirstProgram) → first_in p i ≡ Some path → IsFirst p i path
 found_in p i path e =
     option_and_then_some _ (tree_in p) path e
     (λ t a b. option_and_then_some _ (lengths_in i) path b
@@ -68,7 +68,7 @@ program_again : (text : List ℕ) (lines : List Line) (t : Tree) → IsTextOf te
 program_again text [] t h s e = absurd cc
 program_again text (line ∷ lines) t h s e = ap tree_of_lines (lines_again text (spelled line) (map spelled lines) (clean_lines (line ∷ lines) s) h) ∙ tree_again (line ∷ lines) t s e
 
-again_in : (p i : List ℕ) (path : Path) → IsFirst p i path → first_in p i ≡ Some path
+again_in : (p i : List ℕ) (path : FirstProgram) → IsFirst p i path → first_in p i ≡ Some path
 again_in p i path h =
     ap
     (option_and_then (λ (t : Tree). option_and_then (λ lengths. only_if (are_ranges (length lengths) t.indices) (record { program = t; lengths = lengths })) (lengths_in i)))
@@ -79,7 +79,7 @@ again_in p i path h =
     ∙ ap (λ r. only_if r path) (ranges_again (length path.lengths) path.program.indices h.ranges)
 
 -- two texts of the first profile are a program that can run
-pub runs_in : (p i : List ℕ) (path : Path) → IsFirst p i path → IsPath path
+pub runs_in : (p i : List ℕ) (path : FirstProgram) → IsFirst p i path → IsFirstProgram path
 runs_in p i path h =
     let fine : IsFineTree path.program = fine_built h.program_is.lines path.program h.program_is.sound h.program_is.built in
     record { indices = h.ranges; arrays = fine.arrays; body = fine.body; lengths = h.input_is.within; few_lengths = h.input_is.few }
@@ -89,12 +89,12 @@ found_if_ok (Ok (Some first)) p i e = found_in p i (seen first) (sym e)
 found_if_ok (Ok None) p i e = tt
 found_if_ok (Err x) p i e = tt
 
-pub runs_if_ok : {E : Type 0} (r : Result (Option First) E) (p i : List ℕ) → IfOk r (λ read. option_map seen read ≡ first_in p i) → IfOk r (λ read. IfSome read (λ first. IsPath (seen first)))
+pub runs_if_ok : {E : Type 0} (r : Result (Option First) E) (p i : List ℕ) → IfOk r (λ read. option_map seen read ≡ first_in p i) → IfOk r (λ read. IfSome read (λ first. IsFirstProgram (seen first)))
 runs_if_ok (Ok (Some first)) p i e = runs_in p i (seen first) (found_in p i (seen first) (sym e))
 runs_if_ok (Ok None) p i e = tt
 runs_if_ok (Err x) p i e = tt
 
-pub only_if_ok : {E : Type 0} (r : Result (Option First) E) (p i : List ℕ) → IfOk r (λ read. option_map seen read ≡ first_in p i) → IfOk r (λ read. IfNone read ((path : Path) → IsFirst p i path → ⊥))
+pub only_if_ok : {E : Type 0} (r : Result (Option First) E) (p i : List ℕ) → IfOk r (λ read. option_map seen read ≡ first_in p i) → IfOk r (λ read. IfNone read ((path : FirstProgram) → IsFirst p i path → ⊥))
 only_if_ok (Ok (Some first)) p i e = tt
 only_if_ok (Ok None) p i e = λ path h. let k : first_in p i ≡ Some path = again_in p i path h in absurd cc
 only_if_ok (Err x) p i e = tt

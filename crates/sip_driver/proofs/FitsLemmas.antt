@@ -11,7 +11,7 @@ use Rattle.sial_syntax.specs.declared.operand.Op.TheVariants.{Set, Add}
 use Rattle.sial_syntax.specs.declared.operand.Operand.TheVariants as operand
 use Rattle.sial_syntax.specs.declared.operand.Right.TheVariants.{One, Two}
 use Rattle.sial_syntax.specs.declared.operand.Target.TheVariants as target
-use Rattle.sip_driver.specs.First.{Path, spaces_of, IsBlock, IsForm, IsBody}
+use Rattle.sip_driver.specs.First.{FirstProgram, spaces_of, IsBlock, IsForm, IsBody}
 use Rattle.sip_driver.specs.Ran.{Fits, IsWithin, IsAt, segment_len, index_of}
 use Rattle.sip_driver.specs.Running.{Numbers, words_of, with_words, with_scalar, with_value, segments_in, only_index, number_in}
 use Rattle.sip_driver.proofs.Worked.{through, ran, ran_form}
@@ -39,7 +39,7 @@ length-paired f (x ∷ xs) [] same = absurd (omega (arith, same))
 length-paired f (x ∷ xs) (y ∷ ys) same = let rest : length xs ≡ length ys = omega (arith, same) in ap suc (length-paired f xs ys rest)
 
 -- a block of the same length keeps the shape
-pub fits_words : (path : Path) (m : Numbers) (block : BlockRef) (words : List ℕ) → length words ≡ length (words_of path m block) → Fits path m → Fits path (with_words path block words m)
+pub fits_words : (path : FirstProgram) (m : Numbers) (block : BlockRef) (words : List ℕ) → length words ≡ length (words_of path m block) → Fits path m → Fits path (with_words path block words m)
 fits_words path m block words same fits = record {
   values = fits.values;
   scalars = fits.scalars;
@@ -51,7 +51,7 @@ fits_words path m block words same fits = record {
 }
 
 -- a scalar's number keeps the shape
-pub fits_scalar : (path : Path) (m : Numbers) (scalar number : ℕ) → Fits path m → Fits path (with_scalar scalar number m)
+pub fits_scalar : (path : FirstProgram) (m : Numbers) (scalar number : ℕ) → Fits path m → Fits path (with_scalar scalar number m)
 fits_scalar path m scalar number fits = record {
   values = fits.values;
   scalars = length-set m.scalars scalar number ∙ fits.scalars;
@@ -61,7 +61,7 @@ fits_scalar path m scalar number fits = record {
 }
 
 -- an index's number keeps the shape
-pub fits_value : (path : Path) (m : Numbers) (index number : ℕ) → Fits path m → Fits path (with_value index number m)
+pub fits_value : (path : FirstProgram) (m : Numbers) (index number : ℕ) → Fits path m → Fits path (with_value index number m)
 fits_value path m index number fits = record {
   values = length-set m.values index number ∙ fits.values;
   scalars = fits.scalars;
@@ -71,7 +71,7 @@ fits_value path m index number fits = record {
 }
 
 -- an index that has the number of one of its segments
-pub at_segment : (path : Path) (m : Numbers) (index number : ℕ) → index < length path.program.indices → Fits path m → first_of (spaces_of path) index ≤ number → number < (first_of (spaces_of path) index + count_of (spaces_of path) index) → IsAt path (with_value index number m) index
+pub at_segment : (path : FirstProgram) (m : Numbers) (index number : ℕ) → index < length path.program.indices → Fits path m → first_of (spaces_of path) index ≤ number → number < (first_of (spaces_of path) index + count_of (spaces_of path) index) → IsAt path (with_value index number m) index
 at_segment path m index number within fits from below =
     let is : slice_index_or (slice_set m.values index number) index 0 ≡ number = get_or-set_same m.values index number 0 (subst (λ n. index < n) (sym fits.values) within) in
     record {
@@ -80,19 +80,19 @@ at_segment path m index number within fits from below =
     }
 
 -- the index of a block in a loop is the loop's
-pub only-is : (path : Path) (loop : Option ℕ) (block : BlockRef) (is : IsBlock path.program loop block) → only_index block.at ≡ is.looped.0
+pub only-is : (path : FirstProgram) (loop : Option ℕ) (block : BlockRef) (is : IsBlock path.program loop block) → only_index block.at ≡ is.looped.0
 only-is path loop block is = ap only_index is.looped.2
 
 -- and that of its array
-pub index_of-is : (path : Path) (loop : Option ℕ) (block : BlockRef) (is : IsBlock path.program loop block) → index_of path block.array ≡ is.looped.0
+pub index_of-is : (path : FirstProgram) (loop : Option ℕ) (block : BlockRef) (is : IsBlock path.program loop block) → index_of path block.array ≡ is.looped.0
 index_of-is path loop block is = ap only_index (is.declared ∙ is.looped.2)
 
 -- in a loop over an index, that index has the number of one of its segments
-pub within_at : (path : Path) (m : Numbers) (loop : Option ℕ) (index : ℕ) → loop ≡ Some index → IsWithin path m loop → IsAt path m index
+pub within_at : (path : FirstProgram) (m : Numbers) (loop : Option ℕ) (index : ℕ) → loop ≡ Some index → IsWithin path m loop → IsAt path m index
 within_at path m loop index is within = subst (λ (l : Option ℕ). IsWithin path m l) is within
 
 -- the number of a block in the loop over its index is one of the array's
-pub number_below : (path : Path) (m : Numbers) (loop : Option ℕ) (block : BlockRef) → IsBlock path.program loop block → IsWithin path m loop → number_in path m block < count_of (spaces_of path) (index_of path block.array)
+pub number_below : (path : FirstProgram) (m : Numbers) (loop : Option ℕ) (block : BlockRef) → IsBlock path.program loop block → IsWithin path m loop → number_in path m block < count_of (spaces_of path) (index_of path block.array)
 number_below path m loop block is within =
     let i = is.looped.0 in
     let here = within_at path m loop i is.looped.1 within in
@@ -103,7 +103,7 @@ number_below path m loop block is within =
     (subst (λ y. (slice_index_or m.values i 0 - first_of (spaces_of path) i) < count_of (spaces_of path) y) (sym (index_of-is path loop block is)) core)
 
 -- how many elements a block has in the loop over its index
-pub length-words : (path : Path) (m : Numbers) (loop : Option ℕ) (block : BlockRef) (index : ℕ) → loop ≡ Some index → Fits path m → IsWithin path m loop → IsBlock path.program loop block → length (words_of path m block) ≡ segment_len path index (slice_index_or m.values index 0 - first_of (spaces_of path) index)
+pub length-words : (path : FirstProgram) (m : Numbers) (loop : Option ℕ) (block : BlockRef) (index : ℕ) → loop ≡ Some index → Fits path m → IsWithin path m loop → IsBlock path.program loop block → length (words_of path m block) ≡ segment_len path index (slice_index_or m.values index 0 - first_of (spaces_of path) index)
 length-words path m loop block index looped fits within is =
     let same : is.looped.0 ≡ index = some_is _ _ (sym is.looped.1 ∙ looped) in
     fits.words block.array (number_in path m block) is.array (number_below path m loop block is within)
@@ -114,12 +114,12 @@ length-words path m loop block index looped fits within is =
     some_is a b e = cc
 
 -- two blocks in the loop over their index have one length
-pub same_length : (path : Path) (m : Numbers) (loop : Option ℕ) (a b : BlockRef) → Fits path m → IsWithin path m loop → IsBlock path.program loop a → IsBlock path.program loop b → length (words_of path m a) ≡ length (words_of path m b)
+pub same_length : (path : FirstProgram) (m : Numbers) (loop : Option ℕ) (a b : BlockRef) → Fits path m → IsWithin path m loop → IsBlock path.program loop a → IsBlock path.program loop b → length (words_of path m a) ≡ length (words_of path m b)
 same_length path m loop a b fits within is_a is_b =
     length-words path m loop a is_a.looped.0 is_a.looped.1 fits within is_a ∙ sym (length-words path m loop b is_a.looped.0 is_a.looped.1 fits within is_b)
 
 -- one thing after another keeps the shape where each does
-pub fits_through : (path : Path) (index first count : ℕ) (turn : ℕ → Numbers → Numbers) → ((k : ℕ) (m : Numbers) → first ≤ k → k < (first + count) → Fits path m → Fits path (turn k m)) → (m : Numbers) → Fits path m → Fits path (through (numbers_from first count) turn m)
+pub fits_through : (path : FirstProgram) (index first count : ℕ) (turn : ℕ → Numbers → Numbers) → ((k : ℕ) (m : Numbers) → first ≤ k → k < (first + count) → Fits path m → Fits path (turn k m)) → (m : Numbers) → Fits path m → Fits path (through (numbers_from first count) turn m)
 fits_through path index first zero turn keeps m fits = fits
 fits_through path index first (suc n) turn keeps m fits =
     fits_through
@@ -134,7 +134,7 @@ fits_through path index first (suc n) turn keeps m fits =
 
 mutual
   -- a statement keeps the shape
-  pub fits_form : (path : Path) (loop : Option ℕ) (form : Plain) (m : Numbers) → IsForm path.program loop form → Fits path m → IsWithin path m loop → Fits path (ran_form path form m)
+  pub fits_form : (path : FirstProgram) (loop : Option ℕ) (form : Plain) (m : Numbers) → IsForm path.program loop form → Fits path m → IsWithin path m loop → Fits path (ran_form path form m)
   fits_form path None (Do index body) m is fits within =
       fits_value
       path
@@ -161,13 +161,13 @@ mutual
   fits_form path loop form m is fits within = fits
 
   -- statements keep the shape
-  pub fits_body : (path : Path) (loop : Option ℕ) (body : Block) (m : Numbers) → IsBody path.program loop body → Fits path m → IsWithin path m loop → Fits path (ran path body m)
+  pub fits_body : (path : FirstProgram) (loop : Option ℕ) (body : Block) (m : Numbers) → IsBody path.program loop body → Fits path m → IsWithin path m loop → Fits path (ran path body m)
   fits_body path loop End m is fits within = fits
   fits_body path loop (Then line form rest) m is fits within =
       fits_body path loop rest (ran_form path form m) is.1 (fits_form path loop form m is.0 fits within) (within_form path loop form m is.0 within)
 
   -- a statement in a loop leaves the number of the loop's index
-  pub within_form : (path : Path) (loop : Option ℕ) (form : Plain) (m : Numbers) → IsForm path.program loop form → IsWithin path m loop → IsWithin path (ran_form path form m) loop
+  pub within_form : (path : FirstProgram) (loop : Option ℕ) (form : Plain) (m : Numbers) → IsForm path.program loop form → IsWithin path m loop → IsWithin path (ran_form path form m) loop
   within_form path None form m is within = tt
   within_form path (Some outer) (Do index body) m is within = absurd is
   within_form path (Some outer) (Assign (target.Block t) Set (One (operand.Number n))) m is within = record { from = within.from; below = within.below }

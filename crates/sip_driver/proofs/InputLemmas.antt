@@ -12,7 +12,7 @@ use Rattle.std.proofs.lemmas.Option.{option_and_then_some}
 use Rattle.std.proofs.lemmas.Slice.Eq.{bytes_eq-Decides}
 use Rattle.sial_syntax.specs.Names.{is_digit}
 use Rattle.sip_driver.specs.Built.{only_if}
-use Rattle.sip_driver.specs.First.{Path}
+use Rattle.sip_driver.specs.First.{FirstProgram}
 use Rattle.sip_driver.specs.Lines.{IsTextOf, is_numeral, value_of, has_any}
 use Rattle.sip_driver.specs.Profile.{IsInput, input_line}
 use Rattle.sip_driver.specs.Reading.{number_in, length_in, lengths_from, lengths_of_words, lengths_of_line, lengths_of_lines, lengths_in, lines_in}
@@ -174,7 +174,7 @@ spaced_within (n ∷ ns) e =
     ∙ both (list_all is_within n) (list_all is_within (spaced ns)) (digits_not 10 refl n (numeral_digits n (first_of_two (is_numeral n) (list_all is_numeral ns) e))) (spaced_within ns (last_of_two (is_numeral n) (list_all is_numeral ns) e))
 
 -- A text that spells lengths has them read.
-pub input_again : (text : List ℕ) (path : Path) → IsInput text path → lengths_in text ≡ Some path.lengths
+pub input_again : (text : List ℕ) (path : FirstProgram) → IsInput text path → lengths_in text ≡ Some path.lengths
 input_again text path h =
     let ns : List (List ℕ) = h.numerals in
     let clean : IsClean (input_line h.numerals) = record { some = refl; within = spaced_within h.numerals h.sound } in

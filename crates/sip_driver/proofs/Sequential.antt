@@ -23,7 +23,7 @@ use Rattle.sial_meaning.specs.Own.{bound}
 use Rattle.sial_meaning.specs.Setting.{no_array}
 use Rattle.sial_meaning.specs.State.{State}
 use Rattle.sial_meaning.specs.Statement.{Outcome, Went, Present, after}
-use Rattle.sip_driver.specs.First.{Path, setting_of, spaces_of, span_of_range, from_to, IsPath, IsRange, IsArray, OneBelow, IsBlock, IsForm, IsBody}
+use Rattle.sip_driver.specs.First.{FirstProgram, setting_of, spaces_of, span_of_range, from_to, IsFirstProgram, IsRange, IsArray, OneBelow, IsBlock, IsForm, IsBody}
 use Rattle.sip_driver.specs.Ran.{Fits, IsWithin}
 use Rattle.sip_driver.specs.Running.{Numbers, words_of, with_value, state_of}
 use Rattle.sip_driver.proofs.Worked.{body_lines, form_lines, ran, ran_form, through, lines_through}
@@ -56,7 +56,7 @@ range-is n (range.Segments Index lo hi) is = absurd is
 range-is n (range.Sub super) is = absurd is
 
 -- the span of an index of the first profile
-pub span-is : (path : Path) (index : ℕ) → IsPath path → index < length path.program.indices → span_of (spaces_of path) index ≡ Segments Ao (first_of (spaces_of path) index) (count_of (spaces_of path) index)
+pub span-is : (path : FirstProgram) (index : ℕ) → IsFirstProgram path → index < length path.program.indices → span_of (spaces_of path) index ≡ Segments Ao (first_of (spaces_of path) index) (count_of (spaces_of path) index)
 span-is path index is within =
     let none : IndexDecl = record { name = []; line = 0; range = range.Sub 0 } in
     let at = get_or-map (λ (i : IndexDecl). span_of_range i.range) path.program.indices index none (Segments Index 1 0) within in
@@ -74,7 +74,7 @@ pub some_is : (a b : ℕ) → Some a ≡ Some b → a ≡ b
 some_is a b e = cc
 
 -- the index of a block in a loop is the loop's
-pub at-is : (path : Path) (loop : Option ℕ) (block : BlockRef) (index : ℕ) → loop ≡ Some index → IsBlock path.program loop block → block.at ≡ index ∷ []
+pub at-is : (path : FirstProgram) (loop : Option ℕ) (block : BlockRef) (index : ℕ) → loop ≡ Some index → IsBlock path.program loop block → block.at ≡ index ∷ []
 at-is path loop block index looped is = is.looped.2 ∙ ap (λ i. i ∷ []) (some_is is.looped.0 index (sym is.looped.1 ∙ looped))
 
 -- an array that isn't declared
@@ -82,12 +82,12 @@ abbrev none : ArrayDecl
 none = record { name = []; line = 0; kind = Static; dims = [] }
 
 -- the declared indices of a block's array
-pub dims-are : (path : Path) (loop : Option ℕ) (block : BlockRef) (index : ℕ) → loop ≡ Some index → IsBlock path.program loop block → (slice_index_or path.program.arrays block.array no_array).dims ≡ index ∷ []
+pub dims-are : (path : FirstProgram) (loop : Option ℕ) (block : BlockRef) (index : ℕ) → loop ≡ Some index → IsBlock path.program loop block → (slice_index_or path.program.arrays block.array no_array).dims ≡ index ∷ []
 dims-are path loop block index looped is =
     ap (λ (a : ArrayDecl). a.dims) (read-any path.program.arrays block.array no_array none is.array) ∙ (is.declared ∙ at-is path loop block index looped is)
 
 -- a block of the first profile in the loop over its index is there
-pub there : (path : Path) (m : Numbers) (loop : Option ℕ) (block : BlockRef) (index : ℕ) → loop ≡ Some index → IsPath path → IsBlock path.program loop block → Fits path m → IsWithin path m loop → IsThere path m block.array index
+pub there : (path : FirstProgram) (m : Numbers) (loop : Option ℕ) (block : BlockRef) (index : ℕ) → loop ≡ Some index → IsFirstProgram path → IsBlock path.program loop block → Fits path m → IsWithin path m loop → IsThere path m block.array index
 there path m loop block index looped is block_is fits within =
     let array_is = All-get_or (IsArray (length path.program.indices)) path.program.arrays block.array no_array block_is.array is.arrays in
     let dims = dims-are path loop block index looped block_is in
@@ -103,11 +103,11 @@ there path m loop block index looped is block_is fits within =
     }
 
 -- a statement that printed nothing
-pub quiet_law : (path : Path) (m : Numbers) (lines : List (List ℕ)) (o : Outcome) → o ≡ Went (state_of path m lines) → o ≡ Went (state_of path m (lines ++ []))
+pub quiet_law : (path : FirstProgram) (m : Numbers) (lines : List (List ℕ)) (o : Outcome) → o ≡ Went (state_of path m lines) → o ≡ Went (state_of path m (lines ++ []))
 quiet_law path m lines o is = is ∙ ap (λ ls. Went (state_of path m ls)) (sym (append-nil lines))
 
 -- one thing after another for each number of a row
-pub over-law : (path : Path) (turn : ℕ → State → Outcome) (next : ℕ → Numbers → Numbers) (said : ℕ → Numbers → List (List ℕ)) (first count : ℕ) → ((k : ℕ) (m : Numbers) (lines : List (List ℕ)) → first ≤ k → k < (first + count) → Fits path m → (turn k (state_of path m lines) ≡ Went (state_of path (next k m) (lines ++ said k m))) × Fits path (next k m)) → (m : Numbers) (lines : List (List ℕ)) → Fits path m → over (numbers_from first count) turn (state_of path m lines) ≡ Went (state_of path (through (numbers_from first count) next m) (lines ++ lines_through (numbers_from first count) next said m))
+pub over-law : (path : FirstProgram) (turn : ℕ → State → Outcome) (next : ℕ → Numbers → Numbers) (said : ℕ → Numbers → List (List ℕ)) (first count : ℕ) → ((k : ℕ) (m : Numbers) (lines : List (List ℕ)) → first ≤ k → k < (first + count) → Fits path m → (turn k (state_of path m lines) ≡ Went (state_of path (next k m) (lines ++ said k m))) × Fits path (next k m)) → (m : Numbers) (lines : List (List ℕ)) → Fits path m → over (numbers_from first count) turn (state_of path m lines) ≡ Went (state_of path (through (numbers_from first count) next m) (lines ++ lines_through (numbers_from first count) next said m))
 over-law path turn next said first zero each m lines fits = ap (λ ls. Went (state_of path m ls)) (sym (append-nil lines))
 over-law path turn next said first (suc n) each m lines fits =
     let here = each first m lines (omega arith) (omega arith) fits in
@@ -119,7 +119,7 @@ over-law path turn next said first (suc n) each m lines fits =
 
 mutual
   -- a statement of the first profile, as the meaning has it
-  pub form_law : (path : Path) (call : ℕ → State → Outcome) (loop : Option ℕ) (line : ℕ) (form : Plain) (m : Numbers) (lines : List (List ℕ)) → IsPath path → IsForm path.program loop form → Fits path m → IsWithin path m loop → form_meaning Present (setting_of path) call line form (state_of path m lines) ≡ Went (state_of path (ran_form path form m) (lines ++ form_lines path form m))
+  pub form_law : (path : FirstProgram) (call : ℕ → State → Outcome) (loop : Option ℕ) (line : ℕ) (form : Plain) (m : Numbers) (lines : List (List ℕ)) → IsFirstProgram path → IsForm path.program loop form → Fits path m → IsWithin path m loop → form_meaning Present (setting_of path) call line form (state_of path m lines) ≡ Went (state_of path (ran_form path form m) (lines ++ form_lines path form m))
   form_law path call None line (Do index body) m lines is form_is fits within =
       ap
       (λ o. then_own o (bound index 0))
@@ -175,7 +175,7 @@ mutual
   form_law path call loop line form m lines is form_is fits within = absurd form_is
 
   -- statements of the first profile, as the meaning has them
-  pub body_law : (path : Path) (call : ℕ → State → Outcome) (loop : Option ℕ) (body : Block) (m : Numbers) (lines : List (List ℕ)) → IsPath path → IsBody path.program loop body → Fits path m → IsWithin path m loop → block_meaning Present (setting_of path) call body (state_of path m lines) ≡ Went (state_of path (ran path body m) (lines ++ body_lines path body m))
+  pub body_law : (path : FirstProgram) (call : ℕ → State → Outcome) (loop : Option ℕ) (body : Block) (m : Numbers) (lines : List (List ℕ)) → IsFirstProgram path → IsBody path.program loop body → Fits path m → IsWithin path m loop → block_meaning Present (setting_of path) call body (state_of path m lines) ≡ Went (state_of path (ran path body m) (lines ++ body_lines path body m))
   body_law path call loop End m lines is body_is fits within = ap (λ ls. Went (state_of path m ls)) (sym (append-nil lines))
   body_law path call loop (Then line form rest) m lines is body_is fits within =
       ap (λ o. after o (block_meaning Present (setting_of path) call rest)) (form_law path call loop line form m lines is body_is.0 fits within)

@@ -11,7 +11,7 @@ use Rattle.sial_meaning.specs.Own.{start_scalar, start_statics, start_block, for
 use Rattle.sial_meaning.specs.Setting.{no_array, array_kind, block_count, scalar_class}
 use Rattle.sial_meaning.specs.State.{State, start_state}
 use Rattle.sial_meaning.specs.Statement.{Present}
-use Rattle.sip_driver.specs.First.{Path, setting_of, spaces_of, IsPath, IsArray, OneBelow, printed_text, text_of, lines_of}
+use Rattle.sip_driver.specs.First.{FirstProgram, setting_of, spaces_of, IsFirstProgram, IsArray, OneBelow, printed_text, text_of, lines_of}
 use Rattle.sip_driver.specs.Running.{start_numbers, zero_blocks, segments_in, only_index, state_of}
 use Rattle.sip_driver.specs.Running.{body_prints}
 use Rattle.sip_driver.proofs.FormLaws.{class-is}
@@ -31,7 +31,7 @@ read-replicate (suc n) zero k = refl
 read-replicate (suc n) (suc i) k = read-replicate n i k
 
 -- all scalars begin as 0
-pub scalars-start : (path : Path) → for_each (length path.program.scalars) (λ s. start_scalar (scalar_class (setting_of path) s) (slice_index_or (replicate (length path.program.scalars) 0) s 0)) ≡ map Some (replicate (length path.program.scalars) 0)
+pub scalars-start : (path : FirstProgram) → for_each (length path.program.scalars) (λ s. start_scalar (scalar_class (setting_of path) s) (slice_index_or (replicate (length path.program.scalars) 0) s 0)) ≡ map Some (replicate (length path.program.scalars) 0)
 scalars-start path =
     map-from
     (λ (s : ℕ). start_scalar (scalar_class (setting_of path) s) (slice_index_or (replicate (length path.program.scalars) 0) s 0))
@@ -50,14 +50,14 @@ one_is n (x ∷ []) below = refl
 one_is n (x ∷ (y ∷ ys)) below = absurd below
 
 -- the words of a block over one index
-pub words-one : (path : Path) (index k : ℕ) → IsPath path → index < length path.program.indices → words_in (spaces_of path) (index ∷ []) (numbers_at (spaces_of path) (index ∷ []) k) ≡ (among path.lengths (first_of (spaces_of path) index + k)).len
+pub words-one : (path : FirstProgram) (index k : ℕ) → IsFirstProgram path → index < length path.program.indices → words_in (spaces_of path) (index ∷ []) (numbers_at (spaces_of path) (index ∷ []) k) ≡ (among path.lengths (first_of (spaces_of path) index + k)).len
 words-one path index k is within =
     let whole : k / 1 ≡ k = omega arith in
     ap (λ (s : Span). (segment (spaces_of path) (span_kind (spaces_of path) s) (first_of (spaces_of path) index + k / 1)).len * 1) (span-is path index is within)
     ∙ (ap (λ n. (among path.lengths (first_of (spaces_of path) index + n)).len * 1) whole ∙ omega arith)
 
 -- the blocks of a static array over one index begin as zeros
-pub blocks-start : (path : Path) (array index : ℕ) → IsPath path → index < length path.program.indices → (slice_index_or path.program.arrays array no_array).dims ≡ index ∷ [] → for_each (block_count (setting_of path) array) (start_block (setting_of path) array) ≡ map (λ (k : ℕ). replicate (among path.lengths k).len 0) (segments_in path index)
+pub blocks-start : (path : FirstProgram) (array index : ℕ) → IsFirstProgram path → index < length path.program.indices → (slice_index_or path.program.arrays array no_array).dims ≡ index ∷ [] → for_each (block_count (setting_of path) array) (start_block (setting_of path) array) ≡ map (λ (k : ℕ). replicate (among path.lengths k).len 0) (segments_in path index)
 blocks-start path array index is within dims =
     let g = setting_of path in
     let count : block_count g array ≡ count_of (spaces_of path) index = ap (λ (ds : List ℕ). volume (box_of (spaces_of path) ds)) dims ∙ omega arith in
@@ -74,7 +74,7 @@ blocks-start path array index is within dims =
     ∙ ap (map (λ (k : ℕ). replicate (among path.lengths k).len 0)) (numbers-shift (first_of (spaces_of path) index) (count_of (spaces_of path) index))))
 
 -- the static arrays begin as zeros
-pub statics-start : (path : Path) → IsPath path → for_each (length path.program.arrays) (λ a. start_statics (setting_of path) a (array_kind (setting_of path) a)) ≡ map (zero_blocks path) path.program.arrays
+pub statics-start : (path : FirstProgram) → IsFirstProgram path → for_each (length path.program.arrays) (λ a. start_statics (setting_of path) a (array_kind (setting_of path) a)) ≡ map (zero_blocks path) path.program.arrays
 statics-start path is =
     map-from
     (λ (a : ℕ). start_statics (setting_of path) a (array_kind (setting_of path) a))
@@ -91,7 +91,7 @@ statics-start path is =
     ∙ map-read (zero_blocks path) no_array path.program.arrays
 
 -- a run begins as the meaning does
-pub start-is : (path : Path) → IsPath path → start_state (setting_of path) ≡ state_of path (start_numbers path) []
+pub start-is : (path : FirstProgram) → IsFirstProgram path → start_state (setting_of path) ≡ state_of path (start_numbers path) []
 start-is path is =
     let st : List (Option ℕ) → List (List (List ℕ)) → State = λ scalars statics. record (start_state (setting_of path)) {
       own = record (start_state (setting_of path)).own { scalars = scalars; statics = statics };
@@ -99,7 +99,7 @@ start-is path is =
     ap (λ scalars. st scalars (start_state (setting_of path)).own.statics) (scalars-start path) ∙ ap (λ statics. st (map Some (replicate (length path.program.scalars) 0)) statics) (statics-start path is)
 
 -- the text that a run prints is that of the sequential meaning
-pub printed : (path : Path) → IsPath path → printed_text path ≡ text_of (body_prints path path.program.body (start_numbers path))
+pub printed : (path : FirstProgram) → IsFirstProgram path → printed_text path ≡ text_of (body_prints path path.program.body (start_numbers path))
 unfolding body_prints
 printed path is =
     ap (λ (s : State). text_of (lines_of (block_meaning Present (setting_of path) (calls Present (setting_of path) call_depth) path.program.body s))) (start-is path is)

@@ -4,12 +4,12 @@ use Rattle.std.proofs.lemmas.List.{length-replicate, length-map, get_or-map}
 use Rattle.sial_syntax.proofs.BoxLemmas.{numbers-length, numbers-read}
 use Rattle.sial_syntax.specs.Spaces.{first_of, count_of, among}
 use Rattle.sial_syntax.specs.declared.array.ArrayKind.TheVariants.{Static}
-use Rattle.sip_driver.specs.First.{Path, spaces_of}
+use Rattle.sip_driver.specs.First.{FirstProgram, spaces_of}
 use Rattle.sip_driver.specs.Ran.{Fits, index_of}
 use Rattle.sip_driver.specs.Running.{start_numbers, zero_blocks, segments_in}
 
 -- the numbers as a run begins fit
-pub fits_start : (path : Path) → Fits path (start_numbers path)
+pub fits_start : (path : FirstProgram) → Fits path (start_numbers path)
 fits_start path = record {
   values = length-replicate (length path.program.indices) 0;
   scalars = length-replicate (length path.program.scalars) 0;

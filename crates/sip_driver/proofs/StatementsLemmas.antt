@@ -9,7 +9,7 @@ use Rattle.sial_syntax.specs.declared.statement.Form as form
 use Rattle.sial_syntax.specs.declared.statement.Form.{fold_out-Form}
 use Rattle.sip_files.specs.Kept.{Kept}
 use Rattle.sial_syntax.specs.Spaces.{first_of, count_of}
-use Rattle.sip_driver.specs.First.{Path, spaces_of, text_of, IsBody}
+use Rattle.sip_driver.specs.First.{FirstProgram, spaces_of, text_of, IsBody}
 use Rattle.sip_driver.specs.Ran.{Ran, RanSoFar, Fits, IsWithin}
 use Rattle.sip_driver.specs.Running.{Numbers, segments_in}
 use Rattle.sip_driver.proofs.Worked.{ran, ran_form, body_lines, form_lines, through, lines_through}
@@ -24,7 +24,7 @@ handed_on {old = old} {new = new} {before = before} {now = now} {was = was} {is 
     subst (λ (r : Result (Unit {0}) RunFault). Ran old new before now was is text r) (sym (gave ∙ ap Err same)) ran
 
 -- a statement that stopped stops its body
-pub body_stopped : {old mid new : Option (List ℕ)} {before between now : ℕ} {was between_is is : Kept} {all : List (List ℕ)} {fault : RunFault} (path : Path) (m : Numbers) (body : Block) (line : ℕ) (form : Plain) (rest : Block) → body ≡ Then line form rest → RanSoFar old mid before between was between_is all (body_lines path body m) → Ran mid new between now between_is is (text_of (form_lines path form m)) (Err fault) → Ran old new before now was is (text_of all) (Err fault)
+pub body_stopped : {old mid new : Option (List ℕ)} {before between now : ℕ} {was between_is is : Kept} {all : List (List ℕ)} {fault : RunFault} (path : FirstProgram) (m : Numbers) (body : Block) (line : ℕ) (form : Plain) (rest : Block) → body ≡ Then line form rest → RanSoFar old mid before between was between_is all (body_lines path body m) → Ran mid new between now between_is is (text_of (form_lines path form m)) (Err fault) → Ran old new before now was is (text_of all) (Err fault)
 body_stopped {old = old} {mid = mid} {before = before} {between = between} {was = was} {between_is = between_is} {all = all} path m body line form rest front so went =
     stopped_so_far
     (form_lines path form m)
@@ -33,14 +33,14 @@ body_stopped {old = old} {mid = mid} {before = before} {between = between} {was 
     went
 
 -- what a body keeps from statement to statement: what is left of it gives the numbers that all of it gives
-pub record Left (path : Path) (loop : Option ℕ) (body : Block) (all m : Numbers) : Type 0 where
+pub record Left (path : FirstProgram) (loop : Option ℕ) (body : Block) (all m : Numbers) : Type 0 where
   pub fits : Fits path m
   pub within : IsWithin path m loop
   pub is : IsBody path.program loop body
   pub same : ran path body m ≡ all
 
 -- the next statement's numbers, and what is left then
-pub left_next : (path : Path) (loop : Option ℕ) (body : Block) (line : ℕ) (form : Plain) (rest : Block) (all m n : Numbers) → body ≡ Then line form rest → n ≡ ran_form path form m → Left path loop body all m → Left path loop rest all n
+pub left_next : (path : FirstProgram) (loop : Option ℕ) (body : Block) (line : ℕ) (form : Plain) (rest : Block) (all m n : Numbers) → body ≡ Then line form rest → n ≡ ran_form path form m → Left path loop body all m → Left path loop rest all n
 left_next path loop body line form rest all m n front is left =
     let here = subst (λ (b : Block). Left path loop b all m) front left in
     subst
@@ -54,7 +54,7 @@ left_next path loop body line form rest all m n front is left =
     })
 
 -- the next statement's lines
-pub lines_next : {old mid new : Option (List ℕ)} {before between now : ℕ} {was between_is is : Kept} {all : List (List ℕ)} (path : Path) (m n : Numbers) (body : Block) (line : ℕ) (form : Plain) (rest : Block) → body ≡ Then line form rest → n ≡ ran_form path form m → RanSoFar old mid before between was between_is all (body_lines path body m) → Ran mid new between now between_is is (text_of (form_lines path form m)) (Ok tt) → RanSoFar old new before now was is all (body_lines path rest n)
+pub lines_next : {old mid new : Option (List ℕ)} {before between now : ℕ} {was between_is is : Kept} {all : List (List ℕ)} (path : FirstProgram) (m n : Numbers) (body : Block) (line : ℕ) (form : Plain) (rest : Block) → body ≡ Then line form rest → n ≡ ran_form path form m → RanSoFar old mid before between was between_is all (body_lines path body m) → Ran mid new between now between_is is (text_of (form_lines path form m)) (Ok tt) → RanSoFar old new before now was is all (body_lines path rest n)
 lines_next {old = old} {mid = mid} {new = new} {before = before} {between = between} {now = now} {was = was} {between_is = between_is} {is = is} {all = all} path m n body line form rest front same so went =
     subst
     (λ (o : Numbers). RanSoFar old new before now was is all (body_lines path rest o))
@@ -79,7 +79,7 @@ so_far_same {old = old} {new = new} {before = before} {now = now} {was = was} {i
     subst (λ (r : List (List ℕ)). RanSoFar old new before now was is all r) same so
 
 -- the segments of an index, by its first one and their count
-pub segments_are : (path : Path) (index first count : ℕ) → first ≡ first_of (spaces_of path) index → count ≡ count_of (spaces_of path) index → numbers_from first count ≡ segments_in path index
+pub segments_are : (path : FirstProgram) (index first count : ℕ) → first ≡ first_of (spaces_of path) index → count ≡ count_of (spaces_of path) index → numbers_from first count ≡ segments_in path index
 segments_are path index first count is_first is_count =
     ap (λ k. numbers_from k count) is_first ∙ ap (λ n. numbers_from (first_of (spaces_of path) index) n) is_count
 

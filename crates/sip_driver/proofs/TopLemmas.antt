@@ -1,34 +1,73 @@
--- What two loads show of the texts.
-use Rattle.std.proofs.Common.{◌≡◌, ℕ, ◌<◌, ◌≤◌, ◌⊎◌, List, [], ◌∷◌, Option, Some, None, IsSomeAnd, length, subst, inl, inr, arith}
-use Rattle.std.specs.FinMap as map
-use Rattle.sip_files.specs.Files.{Folder, WhereTold}
-use Rattle.sip_driver.specs.Loads.{Wanted, Loads, after_read, IsReadable, IsUnreadable, AreRead, IsAnyUnreadable}
-use Rattle.sip_driver.specs.Top.{Names, ForTexts}
+-- What loads one after another show of the files and their texts.
+use Rattle.std.proofs.Common.{◌≡◌, ℕ, ◌<◌, ◌≤◌, List, [], ◌∷◌, Option, Some, None, IsSomeAnd, Result, Ok, length, subst, sym, ◌∙◌, inl, inr, arith}
+use Rattle.sip_files.specs.Files.{Folder}
+use Rattle.sip_files.specs.Loading.{Wanted, LoadOf, Tells, Loading}
+use Rattle.sip_files.specs.declared.call.Call.{Call}
+use Rattle.sip_files.specs.declared.fault.LoadFault.{LoadFault}
+use Rattle.sip_driver.specs.Asked.{Names, files_of}
+use Rattle.sip_driver.specs.Headline.{ForTexts, Starved}
+use Rattle.sip_driver.specs.Loads.{IsUnreadable, AreRead, RanOut, IsAnyUnreadable}
+use Rattle.sip_driver.specs.Prints.{PrintsPart, PrintsSome}
 
--- a fact about two texts that were loaded, read as slices
-pub loaded : (told : Option Folder) (names : Names) (program input first second : List ℕ) (fact : List ℕ → List ℕ → Type 0) → WhereTold told names.program (λ held. held ≡ Some program) → WhereTold told names.input (λ held. held ≡ Some input) → first ≡ program → second ≡ input → fact first second → ForTexts told names fact
-loaded None names program input first second fact p i a b holds = tt
-loaded (Some files) names program input first second fact p i a b holds =
-    (program, input, p, i, subst (λ (x : List ℕ). fact x input) a (subst (λ (y : List ℕ). fact first y) b holds))
-
--- the output as it was, or a fact about the texts
-pub kept_or : (told : Option Folder) (names : Names) (old new : Option (List ℕ)) (fact : List ℕ → List ℕ → Type 0) → ForTexts told names (λ p i. (new ≡ old) ⊎ fact p i) → (new ≡ old) ⊎ ForTexts told names fact
-kept_or None names old new fact texts = inr tt
-kept_or (Some files) names old new fact (p, i, has_p, has_i, inl kept) = inl kept
-kept_or (Some files) names old new fact (p, i, has_p, has_i, inr holds) = inr (p, i, has_p, has_i, holds)
+-- where all files were read, memory can still run out behind them
+pub read_ran_out : {F : Type 0} (load : LoadOf F) (old new : F) (files : List Wanted) (texts : List (List ℕ)) → AreRead load old new files texts → RanOut load old new files
+read_ran_out load old new [] [] read = read
+read_ran_out load old new [] (text ∷ texts) read = absurd read
+read_ran_out load old new (file ∷ rest) [] read = absurd read
+read_ran_out load old new (file ∷ rest) (text ∷ texts) (next, loaded, read) = inr (inr (text, next, loaded, read_ran_out load next new rest texts read))
 
 -- a file that was read isn't one that can't be
-readable-not : (told : Option Folder) (file : Wanted) → IsReadable told file → IsUnreadable told file → ⊥
-readable-not None file readable unreadable = unreadable
-readable-not (Some files) file readable (inl missing) = subst (λ (held : Option (List ℕ)). IsSomeAnd held (λ h. length h ≤ file.most)) missing readable
-readable-not (Some files) file readable (inr long) = both (map.get files file.name) readable long
-  where
-    both : (held : Option (List ℕ)) → IsSomeAnd held (λ h. length h ≤ file.most) → IsSomeAnd held (λ h. file.most < length h) → ⊥
-    both None short long = short
-    both (Some h) short long = absurd (omega (arith, short, long))
+readable : (told : Option Folder) (file : Wanted) (text : List ℕ) → Tells told file (Ok tt) text → IsUnreadable told file → ⊥
+readable None file text tells unreadable = unreadable
+readable (Some files) file text (has, within) (inl missing) =
+    subst (λ (held : Option (List ℕ)). IsSomeAnd held (λ h. length h ≤ file.most)) (sym has ∙ missing) within
+readable (Some files) file text (has, within) (inr long) =
+    absurd (omega (arith, within, subst (λ (held : Option (List ℕ)). IsSomeAnd held (λ h. file.most < length h)) has long))
 
 -- where all files were read, none is unreadable
-pub read_not_unreadable : (told : Option Folder) (old new : Loads) (files : List Wanted) → AreRead told old new files → IsAnyUnreadable told files → ⊥
-read_not_unreadable told old new [] read unreadable = unreadable
-read_not_unreadable told old new (file ∷ rest) read (inl this) = readable-not told file read.0 this
-read_not_unreadable told old new (file ∷ rest) read (inr other) = read_not_unreadable told (after_read old) new rest read.1 other
+pub read_not_unreadable :
+    {F : Type 0}
+    (gives : F → List ℕ → ℕ → Result (Unit {0}) LoadFault → List ℕ → F → Type 0)
+    (told : F → Option Folder)
+    (faults : F → Call → ℕ)
+    (overlong : F → ℕ)
+    (old new : F)
+    (files : List Wanted)
+    (texts : List (List ℕ))
+    → AreRead (Loading gives told faults overlong) old new files texts
+    → IsAnyUnreadable (told old) files
+    → ⊥
+read_not_unreadable gives told faults overlong old new [] texts read unreadable = unreadable
+read_not_unreadable gives told faults overlong old new (file ∷ rest) [] read unreadable = read
+read_not_unreadable gives told faults overlong old new (file ∷ rest) (text ∷ texts) (next, load, read) (inl this) =
+    readable (told old) file text load.1 this
+read_not_unreadable gives told faults overlong old new (file ∷ rest) (text ∷ texts) (next, load, read) (inr other) =
+    read_not_unreadable gives told faults overlong next new rest texts read
+    (subst (λ (t : Option Folder). IsAnyUnreadable t rest) (sym load.2) other)
+
+-- a fact about two texts that were loaded, read as slices
+pub for_texts : {F : Type 0} (load : LoadOf F) (old new : F) (names : Names) (program input first second : List ℕ) (fact : List ℕ → List ℕ → Type 0) → AreRead load old new (files_of names) (program ∷ input ∷ []) → first ≡ program → second ≡ input → fact first second → ForTexts load old new names fact
+for_texts load old new names program input first second fact read a b holds =
+    (program, input, read, subst (λ (x : List ℕ). fact x input) a (subst (λ (y : List ℕ). fact first y) b holds))
+
+-- memory that ran out as two texts that were loaded ran
+pub starved : {F K : Type 0} (load : LoadOf F) (old new : F) (names : Names) (written : K → Option (List ℕ)) (before after : K) (program input first second : List ℕ) → AreRead load old new (files_of names) (program ∷ input ∷ []) → first ≡ program → second ≡ input → PrintsSome (written before) (written after) first second → Starved load old new names written before after
+starved load old new names written before after program input first second read a b (inl same) = inl (read_ran_out load old new (files_of names) (program ∷ input ∷ []) read, same)
+starved load old new names written before after program input first second read a b (inr part) =
+    inr (for_texts load old new names program input first second (PrintsPart (written before) (written after)) read a b part)
+
+-- where the texts are at hand, no told file of these is unreadable
+pub texts_readable :
+    {F : Type 0}
+    (gives : F → List ℕ → ℕ → Result (Unit {0}) LoadFault → List ℕ → F → Type 0)
+    (told : F → Option Folder)
+    (faults : F → Call → ℕ)
+    (overlong : F → ℕ)
+    (old new : F)
+    (names : Names)
+    (fact : List ℕ → List ℕ → Type 0)
+    → ForTexts (Loading gives told faults overlong) old new names fact
+    → IsAnyUnreadable (told old) (files_of names)
+    → ⊥
+texts_readable gives told faults overlong old new names fact (program, input, read, holds) =
+    read_not_unreadable gives told faults overlong old new (files_of names) (program ∷ input ∷ []) read

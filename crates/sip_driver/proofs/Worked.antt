@@ -8,7 +8,7 @@ use Rattle.sial_syntax.specs.declared.operand.Right.TheVariants.{One, Two}
 use Rattle.sial_syntax.specs.declared.operand.Target.TheVariants as target
 use Rattle.sial_meaning.specs.Number.{plus}
 use Rattle.block_math.specs.Elements.{sums, dot_of}
-use Rattle.sip_driver.specs.First.{Path}
+use Rattle.sip_driver.specs.First.{FirstProgram}
 use Rattle.sip_driver.specs.Running.{Numbers, words_of, with_words, with_scalar, scalar_in, with_value, line_of, segments_in}
 
 -- one thing after another for each number
@@ -23,7 +23,7 @@ lines_through (k ∷ ks) turn lines m = lines k m ++ lines_through ks turn lines
 
 abbrev mutual
   -- the numbers after one statement
-  pub ran_form : Path → Plain → Numbers → Numbers
+  pub ran_form : FirstProgram → Plain → Numbers → Numbers
   ran_form path (Do index body) m = with_value index 0 (through (segments_in path index) (λ k n. ran path body (with_value index k n)) m)
   ran_form path (Assign (target.Block t) Set (One (operand.Number n))) m = with_words path t (replicate (length (words_of path m t)) n) m
   ran_form path (Assign (target.Block t) Add (One (operand.Block b))) m = with_words path t (sums (words_of path m t) (words_of path m b)) m
@@ -34,19 +34,19 @@ abbrev mutual
   ran_form path _ m = m
 
   -- the numbers after some statements
-  pub ran : Path → Block → Numbers → Numbers
+  pub ran : FirstProgram → Block → Numbers → Numbers
   ran path End m = m
   ran path (Then line form rest) m = ran path rest (ran_form path form m)
 
 abbrev mutual
   -- the lines that one statement prints
-  pub form_lines : Path → Plain → Numbers → List (List ℕ)
+  pub form_lines : FirstProgram → Plain → Numbers → List (List ℕ)
   form_lines path (Do index body) m =
       lines_through (segments_in path index) (λ k n. ran path body (with_value index k n)) (λ k n. body_lines path body (with_value index k n)) m
   form_lines path (PrintScalar s) m = line_of path m s ∷ []
   form_lines path _ m = []
 
   -- the lines that some statements print
-  pub body_lines : Path → Block → Numbers → List (List ℕ)
+  pub body_lines : FirstProgram → Block → Numbers → List (List ℕ)
   body_lines path End m = []
   body_lines path (Then line form rest) m = form_lines path form m ++ body_lines path rest (ran_form path form m)

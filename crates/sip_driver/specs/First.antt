@@ -24,12 +24,12 @@ use Rattle.sial_meaning.specs.Statement.{Outcome, Went, Stopped}
 use Rattle.sip_driver.specs.declared.first.First.{First}
 
 -- a program of the first profile as definitions see it: its tree, and the lengths of the segments
-pub record Path : Type 0 where
+pub record FirstProgram : Type 0 where
   pub program : Tree
   pub lengths : List ℕ
 
 -- the program that was read
-abbrev pub seen : First → Path
+abbrev pub seen : First → FirstProgram
 seen first = record { program = tree first.program; lengths = first.lengths.items }
 
 -- a kind without segments
@@ -51,7 +51,7 @@ span_of_range (range.Segments kind lo hi) = from_to (number_of lo) (number_of hi
 span_of_range (range.Sub super) = Segments Ao 1 0
 
 -- the spaces of a program of the first profile
-abbrev pub spaces_of : Path → Spaces
+abbrev pub spaces_of : FirstProgram → Spaces
 spaces_of path = record {
   ao = record { segments = path.lengths; piece = 0 };
   mo = no_segments;
@@ -61,7 +61,7 @@ spaces_of path = record {
 }
 
 -- its setting: all scalars are replicated and begin as 0, and no block is given
-abbrev pub setting_of : Path → Setting
+abbrev pub setting_of : FirstProgram → Setting
 setting_of path = record {
   program = path.program;
   scalars = replicate (length path.program.scalars) Replicated;
@@ -81,7 +81,7 @@ abbrev pub text_of : List (List ℕ) → List ℕ
 text_of lines = flat_map (λ line. line ++ 10 ∷ []) lines
 
 -- the text that the sequential meaning prints
-abbrev pub printed_text : Path → List ℕ
+abbrev pub printed_text : FirstProgram → List ℕ
 printed_text path = text_of (lines_of (sequential (setting_of path)))
 
 -- a range of the first profile: segments of kind `ao` from 1 on, no more than there are
@@ -135,7 +135,7 @@ abbrev mutual
   IsBody p loop (Then line form rest) = IsForm p loop form × IsBody p loop rest
 
 -- a program of the first profile and the lengths of its segments
-pub record IsPath (path : Path) : Type 0 where
+pub record IsFirstProgram (path : FirstProgram) : Type 0 where
   pub indices : All (λ (i : IndexDecl). IsRange (length path.lengths) i.range) path.program.indices
   pub arrays : All (IsArray (length path.program.indices)) path.program.arrays
   pub body : IsBody path.program None path.program.body

@@ -1,6 +1,10 @@
-pub mod First
-pub mod Top
+pub mod Headline
+pub mod Asked
 pub mod Loads
+pub mod Prints
+pub mod Says
+pub mod Performed
+pub mod First
 pub mod Lines
 pub mod Built
 pub mod Profile

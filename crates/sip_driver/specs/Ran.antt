@@ -5,7 +5,7 @@ use Rattle.sial_syntax.specs.declared.operand.BlockRef.{BlockRef}
 use Rattle.sip_files.specs.Files.{Rose}
 use Rattle.sip_files.specs.Kept.{Kept}
 use Rattle.sip_files.specs.Sink.{Gains, GainsPart}
-use Rattle.sip_driver.specs.First.{Path, spaces_of, dims_in, text_of}
+use Rattle.sip_driver.specs.First.{FirstProgram, spaces_of, dims_in, text_of}
 use Rattle.sip_driver.specs.Running.{Numbers, only_index, number_in}
 use Rattle.sip_driver.specs.declared.fault.RunFault.{RunFault}
 use Rattle.sip_driver.specs.declared.fault.RunFault.TheVariants.{NotWritten}
@@ -19,15 +19,15 @@ pub record Ran (old new : Option (List ℕ)) (before now : ℕ) (was is : Kept) 
   pub kept : is ≡ was
 
 -- how many elements a segment of an index has, counted from the first
-abbrev pub segment_len : Path → (index number : ℕ) → ℕ
+abbrev pub segment_len : FirstProgram → (index number : ℕ) → ℕ
 segment_len path index number = (among path.lengths (first_of (spaces_of path) index + number)).len
 
 -- the index that an array is declared over
-abbrev pub index_of : Path → (array : ℕ) → ℕ
+abbrev pub index_of : FirstProgram → (array : ℕ) → ℕ
 index_of path array = only_index (dims_in path.program array)
 
 -- the numbers of a program: one for each index and scalar, and a block for each segment of each array's index
-pub record Fits (path : Path) (m : Numbers) : Type 0 where
+pub record Fits (path : FirstProgram) (m : Numbers) : Type 0 where
   pub values : length m.values ≡ length path.program.indices
   pub scalars : length m.scalars ≡ length path.program.scalars
   pub arrays : length m.statics ≡ length path.program.arrays
@@ -36,17 +36,17 @@ pub record Fits (path : Path) (m : Numbers) : Type 0 where
       → length (slice_index_or (slice_index_or m.statics array []) number []) ≡ segment_len path (index_of path array) number
 
 -- the index of the loop has the number of one of its segments
-pub record IsAt (path : Path) (m : Numbers) (index : ℕ) : Type 0 where
+pub record IsAt (path : FirstProgram) (m : Numbers) (index : ℕ) : Type 0 where
   pub from : first_of (spaces_of path) index ≤ slice_index_or m.values index 0
   pub below : slice_index_or m.values index 0 < (first_of (spaces_of path) index + count_of (spaces_of path) index)
 
 -- the index of the loop, where there is one, has such a number
-abbrev pub IsWithin : Path → Numbers → Option ℕ → Type 0
+abbrev pub IsWithin : FirstProgram → Numbers → Option ℕ → Type 0
 IsWithin path m None = Unit {0}
 IsWithin path m (Some index) = IsAt path m index
 
 -- a block that is there
-pub record IsHeld (path : Path) (m : Numbers) (block : BlockRef) : Type 0 where
+pub record IsHeld (path : FirstProgram) (m : Numbers) (block : BlockRef) : Type 0 where
   pub array : block.array < length m.statics
   pub number : number_in path m block < length (slice_index_or m.statics block.array [])
   pub some : 0 < length block.at

@@ -10,7 +10,7 @@ use Rattle.sial_syntax.specs.declared.index.Kind.TheVariants.{Ao}
 use Rattle.sial_syntax.specs.declared.index.Range.{Range}
 use Rattle.sial_syntax.specs.declared.index.Range.TheVariants.{Segments}
 use Rattle.sip_driver.specs.Built.{Building, begun, one_more, ended, only_if}
-use Rattle.sip_driver.specs.First.{Path}
+use Rattle.sip_driver.specs.First.{FirstProgram}
 use Rattle.sip_driver.specs.Lines.{Line, Head, Index, Array, Scalar, Loop, LoopEnd, Fill, AddBlock, SetScalar, AddNumber, Contract, Print, Tail, spelled, is_sound, has_any}
 
 -- a number with one more digit, where that fits 64 bits
@@ -169,7 +169,7 @@ abbrev pub are_ranges : (segments : ℕ) → List IndexDecl → Bool
 are_ranges segments indices = list_all (λ (i : IndexDecl). is_range segments i.range) indices
 
 -- the program that two texts are
-abbrev pub first_in : (program input : List ℕ) → Option Path
+abbrev pub first_in : (program input : List ℕ) → Option FirstProgram
 first_in program input =
     option_and_then
     (λ t. option_and_then (λ lengths. only_if (are_ranges (length lengths) t.indices) (record { program = t; lengths = lengths })) (lengths_in input))

@@ -2,13 +2,13 @@
 
 ghost use Rattle.std.specs.Prelude.{◌≡◌, Option, OnOk};
 ghost use Rattle.sial_syntax.specs.Tree.{Assign};
-ghost use Rattle.sip_driver.specs.First.{seen, IsPath, IsForm};
+ghost use Rattle.sip_driver.specs.First.{seen, IsFirstProgram, IsForm};
 ghost use Rattle.sip_driver.specs.Ran.{Fits, IsWithin};
 ghost use Rattle.sip_driver.specs.Running.{form_numbers};
 
 use crate::blocks::{add, contract, fill, increase};
 use crate::first::First;
-use crate::numbers::Machine;
+use crate::machine::Machine;
 use sial_syntax::{Bin, Op, Operand, Right, Target};
 use std::alloc::{AllocError, Global};
 
@@ -22,7 +22,7 @@ pub fn assign(
     right: &Right,
     machine: &mut Machine,
 ) -> Result<(), AllocError>
-    requires path { IsPath (seen first.now) }
+    requires path { IsFirstProgram (seen first.now) }
     requires fits { Fits (seen first.now) machine.old }
     requires within { IsWithin (seen first.now) machine.old within }
     requires form { IsForm (seen first.now).program within (Assign target.now op right.now) }

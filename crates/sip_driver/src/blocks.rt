@@ -4,19 +4,19 @@ ghost use Rattle.std.specs.Prelude.{◌≡◌, ◌+◌, ◌-◌, ◌<◌, ◌≤
 ghost use Rattle.block_math.specs.Elements.{sums, dot_of};
 ghost use Rattle.sial_meaning.specs.Number.{plus};
 ghost use Rattle.sial_syntax.specs.Spaces.{first_of};
-ghost use Rattle.sip_driver.specs.First.{seen, spaces_of, IsPath};
+ghost use Rattle.sip_driver.specs.First.{seen, spaces_of, IsFirstProgram};
 ghost use Rattle.sip_driver.specs.Ran.{IsHeld};
 ghost use Rattle.sip_driver.specs.Running.{only_index, number_in, words_of, with_words, with_scalar, scalar_in};
 
 use crate::first::First;
-use crate::numbers::Machine;
+use crate::machine::Machine;
 use crate::segments::segments_of;
 use sial_syntax::BlockRef;
 use std::alloc::{AllocError, Global};
 
 // The number of a block within its array.
 fn number_of(first: &First, machine: &Machine, block: &BlockRef) -> usize
-    requires path { IsPath (seen first.now) }
+    requires path { IsFirstProgram (seen first.now) }
     requires held { IsHeld (seen first.now) machine.now block.now }
     ensures { result ≡ number_in (seen first.now) machine.now block.now }
 {
@@ -26,7 +26,7 @@ fn number_of(first: &First, machine: &Machine, block: &BlockRef) -> usize
 
 // The elements of a block.
 fn words<'a>(first: &First, machine: &'a Machine, block: &BlockRef) -> &'a [u64]
-    requires path { IsPath (seen first.now) }
+    requires path { IsFirstProgram (seen first.now) }
     requires held { IsHeld (seen first.now) machine.now block.now }
     ensures { result.now ≡ words_of (seen first.now) machine.now block.now }
 {
@@ -41,7 +41,7 @@ pub fn fill(
     block: &BlockRef,
     number: u64,
 ) -> Result<(), AllocError>
-    requires path { IsPath (seen first.now) }
+    requires path { IsFirstProgram (seen first.now) }
     requires held { IsHeld (seen first.now) machine.old block.now }
     ensures { OnOk result (machine.new ≡ with_words (seen first.now) block.now (replicate (length (words_of (seen first.now) machine.old block.now)) number) machine.old) }
 {
@@ -60,7 +60,7 @@ pub fn add(
     block: &BlockRef,
     other: &BlockRef,
 ) -> Result<(), AllocError>
-    requires path { IsPath (seen first.now) }
+    requires path { IsFirstProgram (seen first.now) }
     requires held { IsHeld (seen first.now) machine.old block.now }
     requires other { IsHeld (seen first.now) machine.old other.now }
     requires len { length (words_of (seen first.now) machine.old block.now) ≡ length (words_of (seen first.now) machine.old other.now) }
@@ -81,7 +81,7 @@ pub fn contract(
     left: &BlockRef,
     right: &BlockRef,
 )
-    requires path { IsPath (seen first.now) }
+    requires path { IsFirstProgram (seen first.now) }
     requires scalar { scalar < length machine.old.scalars }
     requires left { IsHeld (seen first.now) machine.old left.now }
     requires right { IsHeld (seen first.now) machine.old right.now }

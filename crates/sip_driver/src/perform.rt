@@ -1,10 +1,13 @@
 //! From the names of two files to a run of them.
 
-ghost use Rattle.std.specs.Prelude.{◌≡◌, ◌≢◌, ◌≤◌, ◌⊎◌};
+ghost use Rattle.std.specs.Prelude.{◌≡◌, ◌≢◌, ◌≤◌};
 ghost use Rattle.sip_files.specs.Files.{Rose, CountsOnly};
+ghost use Rattle.sip_files.specs.Loading.{Loading};
 ghost use Rattle.sip_files.specs.declared.call.Call.TheVariants.{Load};
-ghost use Rattle.sip_driver.specs.Loads.{loads};
-ghost use Rattle.sip_driver.specs.Top.{Names, LoadsOf, ForTexts, Prints, PrintsPart, PrintsSome, IsNotFirst};
+ghost use Rattle.sip_driver.specs.Asked.{named, files_of};
+ghost use Rattle.sip_driver.specs.Headline.{ForTexts, Starved};
+ghost use Rattle.sip_driver.specs.Loads.{IsFirstUnread};
+ghost use Rattle.sip_driver.specs.Prints.{Prints, PrintsPart, PrintsSome, IsNotFirst};
 
 use crate::answer::Answer;
 use crate::fault::RunFault;
@@ -15,7 +18,6 @@ use sip_files::{Files, Sink};
 use std::alloc::Global;
 
 /// Loads two files and runs them, if their texts are of the first profile.
-#[tactic(auto, using(crate::proofs::TopLemmas::loaded))]
 pub fn perform<F: Files, K: Sink>(
     alloc: Global,
     program: &str,
@@ -23,18 +25,24 @@ pub fn perform<F: Files, K: Sink>(
     files: &mut F,
     out: &mut K,
 ) -> Answer
-    ensures loads { LoadsOf result (F.told files.old) (loads (F.came files.old) (F.faults files.old) (F.overlong files.old)) (loads (F.came files.new) (F.faults files.new) (F.overlong files.new)) (record { program = program.now; input = input.now }) }
-
-    ensures done { result ≡ Answer.Done → ForTexts (F.told files.old) (record { program = program.now; input = input.now }) (Prints (K.written out.old) (K.written out.new)) }
-    ensures not_first { result ≡ Answer.NotFirst → ForTexts (F.told files.old) (record { program = program.now; input = input.now }) IsNotFirst }
-    ensures not_written { result ≡ Answer.NotWritten → ForTexts (F.told files.old) (record { program = program.now; input = input.now }) (PrintsPart (K.written out.old) (K.written out.new)) }
+    ensures done { result ≡ Answer.Done → ForTexts (Loading F.load_gives F.told F.faults F.overlong)
+        files.old files.new (named program.now input.now) (Prints (K.written out.old) (K.written out.new)) }
+    ensures no_program { result ≡ Answer.NoProgram → IsFirstUnread (Loading F.load_gives F.told F.faults F.overlong)
+        files.old files.new (files_of (named program.now input.now)) program.now }
+    ensures no_input { result ≡ Answer.NoInput → IsFirstUnread (Loading F.load_gives F.told F.faults F.overlong)
+        files.old files.new (files_of (named program.now input.now)) input.now }
+    ensures not_first { result ≡ Answer.NotFirst → ForTexts (Loading F.load_gives F.told F.faults F.overlong)
+        files.old files.new (named program.now input.now) IsNotFirst }
+    ensures not_written { result ≡ Answer.NotWritten → ForTexts (Loading F.load_gives F.told F.faults F.overlong)
+        files.old files.new (named program.now input.now) (PrintsPart (K.written out.old) (K.written out.new)) }
     ensures cause { result ≡ Answer.NotWritten → Rose (K.faults out.old) (K.faults out.new) }
+    ensures memory { result ≡ Answer.OutOfMemory → Starved (Loading F.load_gives F.told F.faults F.overlong)
+        files.old files.new (named program.now input.now) K.written out.old out.new }
 
     // The output is touched by a run alone.
     ensures no_program_kept { result ≡ Answer.NoProgram → K.written out.new ≡ K.written out.old }
     ensures no_input_kept { result ≡ Answer.NoInput → K.written out.new ≡ K.written out.old }
     ensures not_first_kept { result ≡ Answer.NotFirst → K.written out.new ≡ K.written out.old }
-    ensures memory { result ≡ Answer.OutOfMemory → (K.written out.new ≡ K.written out.old) ⊎ ForTexts (F.told files.old) (record { program = program.now; input = input.now }) (PrintsPart (K.written out.old) (K.written out.new)) }
 
     ensures told { F.told files.new ≡ F.told files.old }
     ensures counts { CountsOnly Load (F.faults files.old) (F.faults files.new) }

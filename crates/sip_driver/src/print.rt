@@ -6,7 +6,7 @@ ghost use Rattle.sip_driver.specs.First.{seen};
 ghost use Rattle.sip_driver.specs.Running.{line_of};
 
 use crate::first::First;
-use crate::numbers::Machine;
+use crate::machine::Machine;
 use itoa::Buffer;
 use sip_files::{Failed, Sink};
 

@@ -3,7 +3,7 @@
 ghost use Rattle.std.specs.Prelude.{◌≡◌, ◌≤◌, OnOk, OnErr, IsErrOf};
 ghost use Rattle.sip_files.specs.Files.{Rose};
 ghost use Rattle.sip_files.specs.Sink.{Gains, GainsPart};
-ghost use Rattle.sip_driver.specs.First.{seen, IsPath, printed_text};
+ghost use Rattle.sip_driver.specs.First.{seen, IsFirstProgram, printed_text};
 
 use crate::fault::RunFault;
 use crate::first::First;
@@ -14,7 +14,7 @@ use std::alloc::Global;
 
 /// Runs a program from its start, and writes each line as it is printed.
 pub fn run<K: Sink>(alloc: Global, first: &First, out: &mut K) -> Result<(), RunFault>
-    requires { IsPath (seen first.now) }
+    requires { IsFirstProgram (seen first.now) }
 
     ensures ok { OnOk result (Gains (K.written out.old) (K.written out.new) (printed_text (seen first.now))) }
     ensures err { OnErr result (GainsPart (K.written out.old) (K.written out.new) (printed_text (seen first.now))) }

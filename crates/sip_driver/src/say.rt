@@ -2,13 +2,13 @@
 
 ghost use Rattle.std.specs.Prelude.{◌≡◌, ◌≤◌, [], ◌∷◌, ◌++◌};
 ghost use Rattle.sip_files.specs.Sink.{Wrote};
-ghost use Rattle.sip_driver.specs.Top.{Says, read_line};
+ghost use Rattle.sip_driver.specs.Says.{Says, read_line};
 
 use sip_files::{Failed, Sink};
 
 /// Writes a line; that it fails changes nothing.
 pub fn say<K: Sink>(err: &mut K, line: &[u8])
-    ensures says { Says (K.written err.old) (K.written err.new) (K.faults err.old) (K.faults err.new) line.now }
+    ensures says { Says K.written K.faults err.old err.new line.now }
     ensures never_falls { K.faults err.old ≤ K.faults err.new }
     ensures kept { K.kept err.new ≡ K.kept err.old }
 {
@@ -17,7 +17,7 @@ pub fn say<K: Sink>(err: &mut K, line: &[u8])
 
 /// Writes the line on a file that wasn't read.
 pub fn say_unread<K: Sink>(err: &mut K, name: &str)
-    ensures says { Says (K.written err.old) (K.written err.new) (K.faults err.old) (K.faults err.new) (read_line name.now) }
+    ensures says { Says K.written K.faults err.old err.new (read_line name.now) }
     ensures never_falls { K.faults err.old ≤ K.faults err.new }
     ensures kept { K.kept err.new ≡ K.kept err.old }
 {

@@ -2,7 +2,7 @@
 
 ghost use Rattle.std.specs.Prelude.{◌≡◌, ℕ, ◌+◌, ◌<◌, ◌≤◌, length};
 ghost use Rattle.sial_syntax.specs.Spaces.{first_of, count_of, span_first, span_count};
-ghost use Rattle.sip_driver.specs.First.{seen, spaces_of, from_to, IsPath};
+ghost use Rattle.sip_driver.specs.First.{seen, spaces_of, from_to, IsFirstProgram};
 
 use crate::first::First;
 use sial_syntax::{Bound, Range};
@@ -16,7 +16,7 @@ pub struct Segments {
 
 /// The segments of an index.
 pub fn segments_of(first: &First, index: u16) -> Segments
-    requires path { IsPath (seen first.now) }
+    requires path { IsFirstProgram (seen first.now) }
     requires within { index < length (seen first.now).program.indices }
     ensures first { result.first ≡ first_of (spaces_of (seen first.now)) index }
     ensures count { result.count ≡ count_of (spaces_of (seen first.now)) index }

@@ -2,18 +2,18 @@
 
 ghost use Rattle.std.specs.Prelude.{◌≡◌, ◌<◌, ◌≤◌, map, replicate, length, IfOk};
 ghost use Rattle.sial_syntax.specs.Spaces.{among};
-ghost use Rattle.sip_driver.specs.First.{seen, IsPath};
+ghost use Rattle.sip_driver.specs.First.{seen, IsFirstProgram};
 ghost use Rattle.sip_driver.specs.Running.{only_index, start_numbers, zero_blocks};
 
 use crate::first::First;
-use crate::numbers::Machine;
+use crate::machine::Machine;
 use crate::segments::segments_of;
 use sial_syntax::ArrayDecl;
 use std::alloc::{AllocError, Global};
 
 /// The numbers before the first statement: no index bound, and zeros everywhere.
 pub fn start(alloc: Global, first: &First) -> Result<Machine, AllocError>
-    requires { IsPath (seen first.now) }
+    requires { IsFirstProgram (seen first.now) }
     ensures { IfOk result (λ machine. machine ≡ start_numbers (seen first.now)) }
 {
     let values = vec![in alloc; 0u32; first.program.indices.len()]?;
@@ -27,7 +27,7 @@ pub fn start(alloc: Global, first: &First) -> Result<Machine, AllocError>
 
 // Zeros for each segment of the index of an array.
 fn blocks(alloc: Global, first: &First, array: &ArrayDecl) -> Result<Vec<Vec<u64>>, AllocError>
-    requires path { IsPath (seen first.now) }
+    requires path { IsFirstProgram (seen first.now) }
     requires some { 0 < length array.now.dims }
     requires within { only_index array.now.dims < length (seen first.now).program.indices }
     ensures { IfOk result (λ blocks. map (λ b. b.items) blocks.items ≡ zero_blocks (seen first.now) array.now) }

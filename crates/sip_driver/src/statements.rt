@@ -2,14 +2,14 @@
 
 ghost use Rattle.std.specs.Prelude.{◌≡◌, ◌<◌, length, OnOk};
 ghost use Rattle.sial_syntax.specs.Tree.{block, plain_form, Do};
-ghost use Rattle.sip_driver.specs.First.{seen, text_of, IsPath, IsBody, IsForm};
+ghost use Rattle.sip_driver.specs.First.{seen, text_of, IsFirstProgram, IsBody, IsForm};
 ghost use Rattle.sip_driver.specs.Ran.{Ran, Fits, IsWithin};
 ghost use Rattle.sip_driver.specs.Running.{body_numbers, form_numbers, body_prints, form_prints};
 
 use crate::assign::assign;
 use crate::fault::RunFault;
 use crate::first::First;
-use crate::numbers::Machine;
+use crate::machine::Machine;
 use crate::print::print_scalar;
 use crate::segments::segments_of;
 use sial_syntax::{Form, Stmt};
@@ -26,7 +26,7 @@ pub fn run_body<K: Sink>(
     machine: &mut Machine,
     out: &mut K,
 ) -> Result<(), RunFault>
-    requires path { IsPath (seen first.now) }
+    requires path { IsFirstProgram (seen first.now) }
     requires fits { Fits (seen first.now) machine.old }
     requires within { IsWithin (seen first.now) machine.old within }
     requires body { IsBody (seen first.now).program within (block stmts.now) }
@@ -49,7 +49,7 @@ fn run_form<K: Sink>(
     machine: &mut Machine,
     out: &mut K,
 ) -> Result<(), RunFault>
-    requires path { IsPath (seen first.now) }
+    requires path { IsFirstProgram (seen first.now) }
     requires fits { Fits (seen first.now) machine.old }
     requires within { IsWithin (seen first.now) machine.old within }
     requires form { IsForm (seen first.now).program within (plain_form form.now) }
@@ -76,7 +76,7 @@ fn run_loop<K: Sink>(
     machine: &mut Machine,
     out: &mut K,
 ) -> Result<(), RunFault>
-    requires path { IsPath (seen first.now) }
+    requires path { IsFirstProgram (seen first.now) }
     requires fits { Fits (seen first.now) machine.old }
     requires index { index < length (seen first.now).program.indices }
     requires body { IsBody (seen first.now).program (Some index) (block stmts.now) }

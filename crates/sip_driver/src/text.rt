@@ -1,10 +1,10 @@
 //! The text of a file, loaded.
 
-ghost use Rattle.std.specs.Prelude.{◌≡◌, Some, Ok, Err, IfOk, OnOk, IsErrOf};
-ghost use Rattle.sip_files.specs.Files.{CountsOnly, WhereTold};
+ghost use Rattle.std.specs.Prelude.{◌≡◌, Ok, IfOk, IsErrOf};
+ghost use Rattle.sip_files.specs.Files.{CountsOnly};
+ghost use Rattle.sip_files.specs.Loading.{Loading, wanted};
 ghost use Rattle.sip_files.specs.declared.call.Call.TheVariants.{Load};
-ghost use Rattle.sip_files.specs.declared.fault.LoadFault.TheVariants as fault;
-ghost use Rattle.sip_driver.specs.Loads.{loads, after_load, after_read, IsReadable, IsUnread};
+ghost use Rattle.sip_driver.specs.Loads.{IsUnread, IsStarved};
 
 use sip_files::{Files, LoadFault};
 use std::alloc::Global;
@@ -24,12 +24,12 @@ pub fn load_text<F: Files>(
     name: &str,
     most: u64,
 ) -> Result<Vec<u8>, TextFault>
-    ensures ok { IfOk result (λ text. WhereTold (F.told files.old) name.now (λ held. held ≡ Some text.items)) }
-    ensures readable { OnOk result (IsReadable (F.told files.old) (record { name = name.now; most = most })) }
-
-    ensures read { OnOk result (loads (F.came files.new) (F.faults files.new) (F.overlong files.new) ≡ after_read (loads (F.came files.old) (F.faults files.old) (F.overlong files.old))) }
-    ensures unread { IsErrOf result TextFault.Unread → IsUnread (F.told files.old) (loads (F.came files.old) (F.faults files.old) (F.overlong files.old)) (loads (F.came files.new) (F.faults files.new) (F.overlong files.new)) (record { name = name.now; most = most }) }
-    ensures memory { IsErrOf result TextFault.OutOfMemory → loads (F.came files.new) (F.faults files.new) (F.overlong files.new) ≡ after_load (loads (F.came files.old) (F.faults files.old) (F.overlong files.old)) (Err fault.OutOfMemory) }
+    ensures read { IfOk result (λ text. Loading F.load_gives F.told F.faults F.overlong
+        files.old (wanted name.now most) (Ok tt) text.items files.new) }
+    ensures unread { IsErrOf result TextFault.Unread → IsUnread (Loading F.load_gives F.told F.faults F.overlong)
+        files.old files.new (wanted name.now most) }
+    ensures memory { IsErrOf result TextFault.OutOfMemory → IsStarved (Loading F.load_gives F.told F.faults F.overlong)
+        files.old files.new (wanted name.now most) }
 
     ensures told { F.told files.new ≡ F.told files.old }
     ensures counts { CountsOnly Load (F.faults files.old) (F.faults files.new) }

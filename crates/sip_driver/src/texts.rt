@@ -1,10 +1,12 @@
 //! The texts of a program and of its input, loaded one after the other.
 
-ghost use Rattle.std.specs.Prelude.{◌≡◌, Some, IfOk, IfErr};
-ghost use Rattle.sip_files.specs.Files.{CountsOnly, WhereTold};
+ghost use Rattle.std.specs.Prelude.{◌≡◌, [], ◌∷◌, IfOk, IfErr};
+ghost use Rattle.sip_files.specs.Files.{CountsOnly};
+ghost use Rattle.sip_files.specs.Loading.{Loading};
 ghost use Rattle.sip_files.specs.declared.call.Call.TheVariants.{Load};
-ghost use Rattle.sip_driver.specs.Loads.{loads, AreRead};
-ghost use Rattle.sip_driver.specs.Top.{Names, files_of, StoppedAt};
+ghost use Rattle.sip_driver.specs.Asked.{named, files_of};
+ghost use Rattle.sip_driver.specs.Loads.{AreRead};
+ghost use Rattle.sip_driver.specs.Performed.{StoppedAt};
 
 use crate::text::{TextFault, load_text};
 use sip_files::Files;
@@ -38,11 +40,10 @@ pub fn load_texts<F: Files>(
     program: &str,
     input: &str,
 ) -> Result<Texts, TextsFault>
-    ensures program { IfOk result (λ texts. WhereTold (F.told files.old) program.now (λ held. held ≡ Some texts.program.items)) }
-    ensures input { IfOk result (λ texts. WhereTold (F.told files.old) input.now (λ held. held ≡ Some texts.input.items)) }
-
-    ensures read { IfOk result (λ texts. AreRead (F.told files.old) (loads (F.came files.old) (F.faults files.old) (F.overlong files.old)) (loads (F.came files.new) (F.faults files.new) (F.overlong files.new)) (files_of (record { program = program.now; input = input.now }))) }
-    ensures stopped { IfErr result (StoppedAt (F.told files.old) (loads (F.came files.old) (F.faults files.old) (F.overlong files.old)) (loads (F.came files.new) (F.faults files.new) (F.overlong files.new)) (record { program = program.now; input = input.now })) }
+    ensures read { IfOk result (λ texts. AreRead (Loading F.load_gives F.told F.faults F.overlong)
+        files.old files.new (files_of (named program.now input.now)) (texts.program.items ∷ texts.input.items ∷ [])) }
+    ensures stopped { IfErr result (StoppedAt (Loading F.load_gives F.told F.faults F.overlong)
+        files.old files.new (named program.now input.now)) }
 
     ensures told { F.told files.new ≡ F.told files.old }
     ensures counts { CountsOnly Load (F.faults files.old) (F.faults files.new) }

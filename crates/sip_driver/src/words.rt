@@ -1,11 +1,11 @@
 //! The words that the program is called with.
 
 ghost use Rattle.std.specs.Prelude.{◌≡◌, option_map};
-ghost use Rattle.sip_driver.specs.Top.{Names, asked};
+ghost use Rattle.sip_driver.specs.Asked.{named, asked};
 
 /// The files of the program and of its input, where the words are four with `run` second.
 pub fn files_asked(words: &[String]) -> Option<(&str, &str)>
-    ensures { option_map (λ names. record { program = names.0.now; input = names.1.now }) result ≡ asked words.now }
+    ensures { option_map (λ names. named names.0.now names.1.now) result ≡ asked words.now }
 {
     match words {
         [_, command, program, input] if command.as_str() == "run" => {

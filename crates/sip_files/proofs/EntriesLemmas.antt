@@ -1,5 +1,6 @@
 -- Looking up and replacing entries, as the map sees it.
-use Rattle.std.proofs.Common.{◌≡◌, ℕ, zero, suc, ◌+◌, ◌<◌, Bool, true, false, cond, List, [], ◌∷◌, ◌++◌, map, length, get_or, set, Some, None, refl, sym, ap, ◌∙◌, arith, position}
+use Rattle.std.proofs.Common.{◌≡◌, ℕ, zero, suc, ◌+◌, ◌<◌, Bool, true, false, cond, List, [], ◌∷◌, ◌++◌, map, length, get_or, set, Some, None, refl, sym, ap, ◌∙◌, arith, position, Result, Ok, Err, unwrap_or}
+use Rattle.std.specs.Prelude.{OnOk, OnErr}
 use Rattle.std.specs.FinMap as finite
 use Rattle.std.specs.FinMap.{find, same_map, get-from_entries, get-insert, from_entries_push, slice_cmp-IsAntisymmetric, nat_cmp-IsAntisymmetric}
 use Rattle.std.specs.Ordering.{nat_cmp, eq_by_cmp}
@@ -11,6 +12,9 @@ use Rattle.std.proofs.lemmas.List.{map_push}
 use Rattle.std.proofs.lemmas.List.Quantifiers.{position-Some}
 use Rattle.std.proofs.lemmas.Iterator.Adapters.{position_from-zero}
 use Rattle.std.specs.List.{position_from}
+use Rattle.sip_files.proofs.WritingLemmas.{insert-there}
+use Rattle.sip_files.specs.Files.{Folder}
+use Rattle.sip_files.specs.Writing.{bytes_in}
 use Rattle.sip_files.specs.Entries.{pair, folder_of, has_name}
 use Rattle.sip_files.specs.declared.folder.Entry.{Entry}
 
@@ -98,3 +102,25 @@ folder_of-push name bytes es new is named holds =
     ap finite.from_entries (map_push pair es new)
     ∙ ap (λ e. finite.from_entries (map pair es ++ e ∷ [])) one
     ∙ from_entries_push nat_list_cmp_total (slice_cmp-IsAntisymmetric nat_cmp-IsAntisymmetric) (map pair es) name bytes (absent name es is)
+
+-- an entry replaced by one with the same name and bytes
+pub folder_of-same : (name : List ℕ) (es : List Entry) (at : ℕ) (d new : Entry) → position (has_name name) es ≡ Some at → new.name.items ≡ (get_or es at d).name.items → new.bytes.items ≡ (get_or es at d).bytes.items → folder_of (set es at new) ≡ folder_of es
+folder_of-same name es at d new is same_name same_bytes =
+    folder_of-set name (get_or es at d).bytes.items es at d new is same_name same_bytes
+    ∙ insert-there (folder_of es) name (get_or es at d).bytes.items (get-place name es at d is)
+
+-- an entry replaced by one with the same name and more bytes
+pub folder_of-longer : (name bytes : List ℕ) (es : List Entry) (at : ℕ) (d new : Entry) → position (has_name name) es ≡ Some at → new.name.items ≡ (get_or es at d).name.items → new.bytes.items ≡ (get_or es at d).bytes.items ++ bytes → folder_of (set es at new) ≡ finite.insert (folder_of es) name (bytes_in (folder_of es) name ++ bytes)
+folder_of-longer name bytes es at d new is same_name longer =
+    folder_of-set name ((get_or es at d).bytes.items ++ bytes) es at d new is same_name longer
+    ∙ ap (λ held. finite.insert (folder_of es) name (unwrap_or held [] ++ bytes)) (sym (get-place name es at d is))
+
+-- bytes for a name that had none are bytes behind none
+pub put-behind_none : {E : Type 0} (result : Result (Unit {0}) E) (files new : Folder) (name bytes : List ℕ) → finite.get files name ≡ None → OnOk result (new ≡ finite.insert files name bytes) → OnOk result (new ≡ finite.insert files name (bytes_in files name ++ bytes))
+put-behind_none (Ok done) files new name bytes none is = is ∙ ap (λ held. finite.insert files name (unwrap_or held [] ++ bytes)) (sym none)
+put-behind_none (Err e) files new name bytes none is = tt
+
+-- what holds anyway holds on an error
+pub on-error : {A E P : Type 0} (result : Result A E) → P → OnErr result P
+on-error (Ok done) p = tt
+on-error (Err e) p = p

@@ -1,4 +1,6 @@
 pub mod Files
+pub mod Loading
+pub mod Writing
 pub mod Kept
 pub mod Sink
 pub mod Plan

@@ -1,8 +1,8 @@
 -- What a contract sees of files in memory.
 use Rattle.std.specs.Prelude.{ℕ, Result}
 use Rattle.std.specs.FinMap as map
-use Rattle.sip_files.specs.Files.{Folder, overlong_after}
-use Rattle.sip_files.specs.Plan.{Planned, unplanned, with_number, after_call}
+use Rattle.sip_files.specs.Files.{Folder, one_more, overlong_after}
+use Rattle.sip_files.specs.Plan.{Planned, unplanned, with_number, after_call, after_refusal}
 use Rattle.sip_files.specs.declared.call.Call.{Call}
 use Rattle.sip_files.specs.declared.fault.LoadFault.{LoadFault}
 use Rattle.sip_files.specs.declared.call.Call.TheVariants.{Load, Clear, Append, ReadAt, WriteAt}
@@ -46,6 +46,29 @@ with_planned plans Clear number = record plans { clear = with_number plans.clear
 with_planned plans Append number = record plans { append = with_number plans.append number }
 with_planned plans ReadAt number = record plans { read_at = with_number plans.read_at number }
 with_planned plans WriteAt number = record plans { write_at = with_number plans.write_at number }
+
+-- plans with another one for a kind
+abbrev pub with_plan : Plans → Call → Planned → Plans
+with_plan plans Load planned = record plans { load = planned }
+with_plan plans Clear planned = record plans { clear = planned }
+with_plan plans Append planned = record plans { append = planned }
+with_plan plans ReadAt planned = record plans { read_at = planned }
+with_plan plans WriteAt planned = record plans { write_at = planned }
+
+-- after a call of a kind, failed exactly where that was planned
+abbrev pub after_met : FilesInMemory → Call → FilesInMemory
+after_met memory call = record memory { plans = with_plan memory.plans call (after_call (plan_of memory.plans call)) }
+
+-- after a call of a kind whose growth found no memory
+abbrev pub after_refused : FilesInMemory → Call → FilesInMemory
+after_refused memory call = record memory {
+  plans = with_plan memory.plans call (after_refusal (after_call (plan_of memory.plans call)));
+  refused = one_more memory.refused;
+}
+
+-- after a call of a kind that left these files
+abbrev pub after_writing : FilesInMemory → Call → Folder → FilesInMemory
+after_writing memory call files = record (after_met memory call) { files = files }
 
 -- how many calls of a kind failed
 abbrev pub faults_of : FilesInMemory → Call → ℕ

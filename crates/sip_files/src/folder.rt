@@ -1,8 +1,9 @@
 //! Bytes by name, in memory.
 
-ghost use Rattle.std.specs.Prelude.{◌≡◌, option_map, position, OnOk, OnErr};
+ghost use Rattle.std.specs.Prelude.{◌≡◌, ◌++◌, option_map, position, OnOk, OnErr};
 ghost use Rattle.std.specs.FinMap as map;
 ghost use Rattle.sip_files.specs.Entries.{has_name};
+ghost use Rattle.sip_files.specs.Writing.{bytes_in};
 
 use crate::fault::OutOfMemory;
 use std::alloc::Global;
@@ -71,6 +72,21 @@ impl Folder {
             }
         }
         Ok(())
+    }
+
+    /// Adds bytes at the end of what a name has; a name that isn't there has none.
+    pub fn append(&mut self, name: &[u8], bytes: &[u8]) -> Result<(), OutOfMemory>
+        ensures ok { OnOk result (self.new ≡ map.insert self.old name.now (bytes_in self.old name.now ++ bytes.now)) }
+        ensures err { OnErr result (self.new ≡ self.old) }
+    {
+        match place_of(self.entries.as_slice(), name) {
+            Some(at) => {
+                let entry = &mut self.entries[at];
+                entry.bytes.extend_from_slice(bytes)?;
+                Ok(())
+            }
+            None => self.put(name, bytes),
+        }
     }
 }
 

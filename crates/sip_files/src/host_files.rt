@@ -1,13 +1,14 @@
 //! The host's files, by the runtime's few calls.
 
-ghost use Rattle.std.specs.Prelude.{◌≡◌, ◌<◌, ◌≤◌, [], Ok, true, vec_len, OnOk, IsErrOf};
+ghost use Rattle.std.specs.Prelude.{◌≡◌, ◌<◌, ◌≤◌, [], Ok, true, vec_len, OnOk, OnErr, IsErrOf};
 
 use crate::call::Call;
 use crate::counts::Counts;
-use crate::fault::LoadFault;
+use crate::fault::{Failed, LoadFault};
 use crate::files::Files;
 use crate::reading::{fault_of, read_whole};
-use std::fs;
+use crate::writing::write_whole;
+use std::fs::{self, File};
 use std::marker::Model;
 
 /// The host's files. They tell no content, and count each error.
@@ -28,7 +29,8 @@ impl<'a, R: std::rt::Files> Model for HostFiles<'a, R> {
 }
 
 impl<'a, R: std::rt::Files> HostFiles<'a, R> {
-    ghost use Rattle.sip_files.specs.Counts.{no_faults};
+    ghost use Rattle.sip_files.specs.Counts.{count_of, no_faults, with_one_more};
+    ghost use Rattle.sip_files.specs.Files.{CountsOnly};
 
     /// No call failed yet.
     pub fn new(runtime: &'a R) -> HostFiles<'a, R>
@@ -41,21 +43,36 @@ impl<'a, R: std::rt::Files> HostFiles<'a, R> {
             overlong: 0,
         }
     }
+
+    // An answer, counted where it is a failure of this kind of call.
+    fn counted(&mut self, call: Call, answer: Result<(), Failed>) -> Result<(), Failed>
+        ensures ok { OnOk result (self.new ≡ self.old) }
+        ensures err { OnErr result (self.new ≡ record self.old { faults = with_one_more self.old.faults call }) }
+        ensures same { result ≡ answer }
+        ensures only { CountsOnly call (count_of self.old.faults) (count_of self.new.faults) }
+    {
+        if answer.is_err() {
+            self.faults.raise(call);
+        }
+        answer
+    }
 }
 
 impl<'a, R: std::rt::Files> Files for HostFiles<'a, R> {
     ghost use Rattle.std.specs.Prelude.{[], None};
     ghost use Rattle.sip_files.specs.Counts.{count_of};
+    ghost use Rattle.sip_files.specs.Files.{one_more};
 
     ghost told = { λ _. None };
 
     ghost faults = { λ f. count_of f.faults };
 
-    ghost came = { λ f. f.came };
-
     ghost overlong = { λ f. f.overlong };
 
     ghost loans = { λ _. [] };
+
+    // Each load is counted.
+    ghost load_gives = { λ old _ _ _ _ new. new.came ≡ one_more old.came };
 
     fn load(&mut self, name: &str, into: &mut Vec<u8>, most: u64) -> Result<(), LoadFault> {
         let answer = read_file(self.runtime, name, into, most);
@@ -66,6 +83,36 @@ impl<'a, R: std::rt::Files> Files for HostFiles<'a, R> {
             _ => {}
         }
         answer
+    }
+
+    fn clear(&mut self, name: &str) -> Result<(), Failed> {
+        let answer = clear_file(self.runtime, name);
+        self.counted(Call::Clear, answer)
+    }
+
+    fn append(&mut self, name: &str, bytes: &[u8]) -> Result<(), Failed> {
+        let answer = append_to_file(self.runtime, name, bytes);
+        self.counted(Call::Append, answer)
+    }
+}
+
+// Makes a file of the host have no bytes.
+fn clear_file<R: std::rt::Files>(runtime: &R, name: &str) -> Result<(), Failed> {
+    match fs::create(runtime, name) {
+        Ok(_) => Ok(()),
+        Err(_) => Err(Failed),
+    }
+}
+
+// Adds bytes at the end of a file of the host.
+fn append_to_file<R: std::rt::Files>(runtime: &R, name: &str, bytes: &[u8]) -> Result<(), Failed> {
+    match File::options()
+        .append(true)
+        .create(true)
+        .open(runtime, name)
+    {
+        Ok(mut file) => write_whole(&mut file, bytes),
+        Err(_) => Err(Failed),
     }
 }
 

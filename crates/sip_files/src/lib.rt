@@ -4,6 +4,7 @@
 mod call;
 mod counts;
 mod fault;
+mod file_sink;
 mod files;
 mod folder;
 mod host_files;
@@ -17,6 +18,7 @@ mod writing;
 
 pub use call::Call;
 pub use fault::{Failed, LoadFault, OutOfMemory};
+pub use file_sink::FileSink;
 pub use files::Files;
 pub use host_files::HostFiles;
 pub use host_sink::HostSink;

@@ -1,13 +1,15 @@
 //! Files in memory, with planned faults.
 
-ghost use Rattle.std.specs.Prelude.{◌≡◌, ◌↔◌, ◌<◌, ◌≤◌, [], Some, None, length, option_map, IsSomeAnd, IsTrue, OnOk, OnErr, IsErrOf};
+ghost use Rattle.std.specs.Prelude.{◌≡◌, ◌↔◌, ◌<◌, ◌≤◌, [], ◌++◌, Some, None, false, length, option_map, IsSomeAnd, IsTrue, IsErr, OnOk, OnErr, IsErrOf};
 ghost use Rattle.std.specs.FinMap as map;
-ghost use Rattle.sip_files.specs.Files.{CountsOnly, IsPartOf, failed_after};
+ghost use Rattle.sip_files.specs.Files.{Rose, CountsOnly, IsPartOf, failed_after};
 ghost use Rattle.sip_files.specs.Plan.{is_next};
-ghost use Rattle.sip_files.specs.MemoryFiles.{no_files, with_planned, faults_of, after_load};
+ghost use Rattle.sip_files.specs.Sink.{GainsPart};
+ghost use Rattle.sip_files.specs.Writing.{bytes_in, bytes_of, others_of, cleared, appended};
+ghost use Rattle.sip_files.specs.MemoryFiles.{no_files, with_planned, faults_of, after_load, after_met, after_refused, after_writing};
 
 use crate::call::Call;
-use crate::fault::{LoadFault, OutOfMemory};
+use crate::fault::{Failed, LoadFault, OutOfMemory};
 use crate::files::Files;
 use crate::folder::Folder;
 use crate::plan::Plan;
@@ -94,17 +96,17 @@ impl MemoryFiles {
 }
 
 impl Files for MemoryFiles {
-    ghost use Rattle.sip_files.specs.declared.call.Call.TheVariants.{Load};
+    ghost use Rattle.sip_files.specs.declared.call.Call.TheVariants.{Load, Clear, Append};
 
     ghost told = { λ m. Some m.files };
 
     ghost faults = { faults_of };
 
-    ghost came = { λ m. m.plans.load.calls };
-
     ghost overlong = { λ m. m.overlong };
 
     ghost loans = { λ _. [] };
+
+    ghost load_gives = { λ old _ _ answer _ new. new ≡ after_load old answer };
 
     #[tactic(auto, using(crate::proofs::FilesLemmas::empty_is_part))]
     fn load(&mut self, name: &str, into: &mut Vec<u8>, most: u64) -> Result<(), LoadFault>
@@ -134,6 +136,57 @@ impl Files for MemoryFiles {
             return Err(LoadFault::TooLong);
         }
         into.extend_from_slice(held)?;
+        Ok(())
+    }
+
+    #[tactic(auto, using(crate::proofs::WritingLemmas::remove_insert))]
+    fn clear(&mut self, name: &str) -> Result<(), Failed>
+        ensures ok { OnOk result (Some self.new.files ≡ cleared (Some self.old.files) name.now) }
+        ensures others { others_of (Some self.new.files) name.now ≡ others_of (Some self.old.files) name.now }
+        ensures cause { OnErr result (Rose (faults_of self.old Clear) (faults_of self.new Clear)) }
+        ensures counts { CountsOnly Clear (faults_of self.old) (faults_of self.new) }
+        ensures overlong { self.new.overlong ≡ self.old.overlong }
+
+        // A call fails exactly where that was planned or its growth found no memory, and then it changes no file.
+        ensures planned { IsTrue (is_next self.old.plans.clear) → IsErr result }
+        ensures after { OnOk result (self.new ≡ after_writing self.old Clear (map.insert self.old.files name.now [])) }
+        ensures after_planned { IsTrue (is_next self.old.plans.clear) → self.new ≡ after_met self.old Clear }
+        ensures after_refused { is_next self.old.plans.clear ≡ false → OnErr result (self.new ≡ after_refused self.old Clear) }
+    {
+        if self.clear.meet() {
+            return Err(Failed);
+        }
+        if self.files.put(name.as_bytes(), b"").is_err() {
+            self.refused = self.refused.saturating_add(1);
+            self.clear.refuse();
+            return Err(Failed);
+        }
+        Ok(())
+    }
+
+    #[tactic(auto, using(crate::proofs::WritingLemmas::remove_insert, crate::proofs::WritingLemmas::same_gains))]
+    fn append(&mut self, name: &str, bytes: &[u8]) -> Result<(), Failed>
+        ensures ok { OnOk result (Some self.new.files ≡ appended (Some self.old.files) name.now bytes.now) }
+        ensures part { OnErr result (GainsPart (bytes_of (Some self.old.files) name.now) (bytes_of (Some self.new.files) name.now) bytes.now) }
+        ensures others { others_of (Some self.new.files) name.now ≡ others_of (Some self.old.files) name.now }
+        ensures cause { OnErr result (Rose (faults_of self.old Append) (faults_of self.new Append)) }
+        ensures counts { CountsOnly Append (faults_of self.old) (faults_of self.new) }
+        ensures overlong { self.new.overlong ≡ self.old.overlong }
+
+        // A call fails exactly where that was planned or its growth found no memory, and then it changes no file.
+        ensures planned { IsTrue (is_next self.old.plans.append) → IsErr result }
+        ensures after { OnOk result (self.new ≡ after_writing self.old Append (map.insert self.old.files name.now (bytes_in self.old.files name.now ++ bytes.now))) }
+        ensures after_planned { IsTrue (is_next self.old.plans.append) → self.new ≡ after_met self.old Append }
+        ensures after_refused { is_next self.old.plans.append ≡ false → OnErr result (self.new ≡ after_refused self.old Append) }
+    {
+        if self.append.meet() {
+            return Err(Failed);
+        }
+        if self.files.append(name.as_bytes(), bytes).is_err() {
+            self.refused = self.refused.saturating_add(1);
+            self.append.refuse();
+            return Err(Failed);
+        }
         Ok(())
     }
 }

@@ -11,7 +11,7 @@ pub loop-q-preserved : goal.loop-q-preserved
 loop-q-preserved c =
     let q = c.loop-q.q in
     let T : ℕ → ℕ → ℕ = λ i j. (get_or c.args.rows.now.to i 0 + get_or c.args.columns.now.to j 0) % 2 ^ 64 in
-    let V : ℕ → ℕ → ℕ = λ i j. sum_to c.args.places (λ k. entry c.args.packed.now k i * column_entry c.args.panels.now k j) % 2 ^ 64 in
+    let V : ℕ → ℕ → ℕ = λ i j. sum_to c.args.positions (λ k. entry c.args.packed.now k i * column_entry c.args.panels.now k j) % 2 ^ 64 in
     elim c.if-q-columns.branch [
       | then-q-columns w ↦
           rw w.to-is
@@ -20,7 +20,7 @@ loop-q-preserved c =
           c.args.rows.now.len q w.four.result.len c.args.columns.now.len (length c.args.to.now) c.args.to.now c.loop-q.to w.store.new.to
           w.if-q-columns.true w.four.ensures.len c.requires.targets
           (λ i j row column. let at = w.four.ensures.to j (omega (arith, w.four.ensures.len)) in rw at)
-          (λ i j row column. panel_sum c.args.places c.args.packed.now c.args.panels.now q i j _ (omega (arith, w.four.ensures.len)) (omega arith)
+          (λ i j row column. panel_sum c.args.positions c.args.packed.now c.args.panels.now q i j _ (omega (arith, w.four.ensures.len)) (omega arith)
           (w.panel_sums-sums.ensures i j (omega (arith, c.requires.few_rows)) (omega (arith, w.four.ensures.len))))
           c.loop-q.invariant w.store.ensures)
       | else-q-columns w ↦

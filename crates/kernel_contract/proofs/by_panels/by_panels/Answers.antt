@@ -17,7 +17,7 @@ through-requires g c =
     c.requires.fits few c.loop-columns.invariant.done.len (omega arith) (omega arith) (omega arith) c.requires.rows run in
     let targets = AreTargets-run c.args.a.now c.args.b.now c.args.to.now c.loop-columns.to c.args.free_a.now c.args.free_b.now c.args.shared.now first c.run-group.result
     c.requires.fits few c.loop-columns.invariant.done.len (omega arith) (omega arith) (omega arith) c.requires.rows run in
-    (search rules, (search rules, (run.some, (run.len, (run.filled, (c.requires.places, (in_a, (in_b, targets))))))))
+    (search rules, (search rules, (run.some, (run.len, (run.filled, (c.requires.positions, (in_a, (in_b, targets))))))))
 
 pub loop-columns-preserved : goal.loop-columns-preserved
 loop-columns-preserved g c =

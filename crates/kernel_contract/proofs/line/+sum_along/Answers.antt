@@ -1,6 +1,6 @@
 use Rattle.std.proofs.Common.{◌≡◌, ◌%◌, ◌^◌, ◌∙◌, List, ap, arith, length, rules, subst, sym}
 use Rattle.kernel_contract.specs.Parts.{Reaches, sum_from}
-use Rattle.kernel_contract.specs.Places.{offset_a, offset_b}
+use Rattle.kernel_contract.specs.Positions.{offset_a, offset_b}
 use Rattle.kernel_contract.specs.Sum.{sum_to}
 use Rattle.kernel_contract.specs.declared.axis.Axis.{Axis}
 use Rattle.kernel_contract.proofs.LineLemmas.{Reaches-rest, first_alone, first_and_rest, first_of, reached_at_none, rest_of, sum_from-along, terms_at}

@@ -7,7 +7,7 @@ pub loop-k-preserved : goal.loop-k-preserved
 loop-k-preserved c = record {
   len = length-set _ _ _ ∙ c.loop-k.invariant.len;
   done = λ k i low lane.
-      front_step (λ place row. (lane : ℕ) → lane < 4 → get_or row lane 0 ≡ loaded c.args.from.now c.args.lanes.now c.args.places.now place lane)
+      front_step (λ position row. (lane : ℕ) → lane < 4 → get_or row lane 0 ≡ loaded c.args.from.now c.args.lanes.now c.args.positions.now position lane)
       c.loop-k.panel [] c.packed_row.result c.loop-k.k (omega arith)
-      (λ place before lane few. c.loop-k.invariant.done place lane before few) c.packed_row.ensures k low i lane;
+      (λ position before lane few. c.loop-k.invariant.done position lane before few) c.packed_row.ensures k low i lane;
 }

@@ -1,11 +1,11 @@
 use Rattle.std.proofs.Common.{◌≡◌, ◌+◌, ◌<◌, ◌%◌, ◌^◌, ◌∙◌, arith, ap, add_comm, get_or, length, sym, refl}
 use Rattle.kernel_contract.specs.Parts.{term_at}
-use Rattle.kernel_contract.specs.Places.{offset_a, offset_b}
+use Rattle.kernel_contract.specs.Positions.{offset_a, offset_b}
 use Rattle.kernel_contract.specs.Product.{row_of}
 use Rattle.kernel_contract.specs.Sum.{sum_to}
 use Rattle.kernel_contract.specs.Walks.{count, gone}
-use Rattle.kernel_contract.proofs.PlaceLemmas.{sum_over-sum_to}
-use Rattle.kernel_contract.proofs.SourceLemmas.{Reaches-place_at, all-filled, row_by-terms}
+use Rattle.kernel_contract.proofs.PositionLemmas.{sum_over-sum_to}
+use Rattle.kernel_contract.proofs.SourceLemmas.{Reaches-position_at, all-filled, row_by-terms}
 use Rattle.kernel_contract.proofs.Sums.{sum_more}
 use Rattle.kernel_contract.proofs.tile_sums.products.Goals as goal
 
@@ -16,8 +16,8 @@ packed-part_a-requires g c i j row low =
     c.requires.some_rows c.requires.filled_rows.a
     (λ r inside. all-filled 4 (λ y. (get_or c.args.rows.now.a r 0 + y) % 2 ^ 64 < length c.args.a.now) c.run-run.result.a c.run-run.result.len
     run.some run.filled.a
-    (λ k place. Reaches-place_at offset_a c.args.shared.now _ _ (gone c.args.shared.now c.loop-walk.walk + k) _ (c.requires.in_a r inside)
-    (omega (arith, c.run-run.ensures.gone, c.run-run.ensures.within)) (run.a k place))
+    (λ k position. Reaches-position_at offset_a c.args.shared.now _ _ (gone c.args.shared.now c.loop-walk.walk + k) _ (c.requires.in_a r inside)
+    (omega (arith, c.run-run.ensures.gone, c.run-run.ensures.within)) (run.a k position))
     j low)
     i row
 
@@ -29,8 +29,8 @@ packed-part_b-requires g c i j low column =
     c.requires.some_columns c.requires.filled_columns.b
     (λ r inside. all-filled 4 (λ y. (get_or c.args.columns.now.b r 0 + y) % 2 ^ 64 < length c.args.b.now) c.run-run.result.b c.run-run.result.len
     run.some run.filled.b
-    (λ k place. Reaches-place_at offset_b c.args.shared.now _ _ (gone c.args.shared.now c.loop-walk.walk + k) _ (c.requires.in_b r inside)
-    (omega (arith, c.run-run.ensures.gone, c.run-run.ensures.within)) (run.b k place))
+    (λ k position. Reaches-position_at offset_b c.args.shared.now _ _ (gone c.args.shared.now c.loop-walk.walk + k) _ (c.requires.in_b r inside)
+    (omega (arith, c.run-run.ensures.gone, c.run-run.ensures.within)) (run.b k position))
     i low)
     j column)
 

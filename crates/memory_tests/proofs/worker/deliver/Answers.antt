@@ -1,7 +1,7 @@
 use Rattle.block_pool.proofs.Leases.{written, keep_refl, no_shared_swap}
 use Rattle.block_pool.proofs.LeaseLists.{place_read}
 use Rattle.block_pool.proofs.Frames.{frames_all}
-use Rattle.block_pool.specs.declared.state.State.TheVariants.{Own, Await, Keep, Send}
+use Rattle.block_pool.specs.declared.state.State.TheVariants.{Owned, Awaiting, Cached, Sending}
 use Rattle.memory_tests.proofs.worker.deliver.Goals as goal
 
 pub sending-requires : goal.sending-requires
@@ -22,10 +22,10 @@ returns-then-len-least-clause-worker c =
     let here = place_read c.args.home.now c.args.at c.in-Some-home.into c.index-home-at.result c.requires.at c.index-home-at.is c.in-Some-home.is in
     let stay = (frames_all c.meet.ensures.changes c.args.home.now c.args.at here (c.requires.home.stands c.args.at c.in-Some-home.into here)).all_stay in
     record {
-      owned = (stay Own _ _ (λ e. absurd cc) (λ e. no_shared_swap c.requires.apart) (keep_refl _ stands.owned)).holds;
-      awaited = (stay Await _ _ (λ e. absurd cc) (λ e. absurd cc) (keep_refl _ stands.awaited)).holds;
-      cached = (stay Keep _ _ (λ e. absurd cc) (λ e. absurd cc) (keep_refl _ stands.cached)).holds;
-      sending = (stay Send _ _ (λ e. absurd cc) (λ e. absurd cc) (keep_refl _ stands.sending)).holds;
+      owned = (stay Owned _ _ (λ e. absurd cc) (λ e. no_shared_swap c.requires.apart) (keep_refl _ stands.owned)).holds;
+      awaited = (stay Awaiting _ _ (λ e. absurd cc) (λ e. absurd cc) (keep_refl _ stands.awaited)).holds;
+      cached = (stay Cached _ _ (λ e. absurd cc) (λ e. absurd cc) (keep_refl _ stands.cached)).holds;
+      sending = (stay Sending _ _ (λ e. absurd cc) (λ e. absurd cc) (keep_refl _ stands.sending)).holds;
     }
 
 pub returns-then-len-least-clause-home : goal.returns-then-len-least-clause-home

@@ -1,6 +1,6 @@
-use Rattle.sial_meaning.proofs.MarkLemmas.{marks-find-first-clash}
-use Rattle.sial_meaning.proofs.CountLemmas.{pairs-say-counts}
-use Rattle.sial_meaning.proofs.RefusalLemmas.{no-refusal-says-accepted}
+use Rattle.sial_meaning.proofs.AcceptedInOtherWords.Marks.{marks-find-first-clash}
+use Rattle.sial_meaning.proofs.AcceptedInOtherWords.Counts.{pairs-say-counts}
+use Rattle.sial_meaning.proofs.AcceptedInOtherWords.Refusals.{no-refusal-says-accepted}
 use Rattle.sial_meaning.proofs.acceptance.accepted_in_other_words.Goals as goal
 
 pub returns : goal.returns

@@ -1,4 +1,4 @@
-use Rattle.sial_meaning.proofs.EpochOrderLemmas.{epochs-never-fall, marks-find-clash-of-program}
+use Rattle.sial_meaning.proofs.AcceptedInOtherWords.EpochOrder.{epochs-never-fall, marks-find-clash-of-program}
 use Rattle.sial_meaning.proofs.acceptance.epochs_in_order.Goals as goal
 
 pub returns : goal.returns

@@ -1,4 +1,4 @@
-use Rattle.sial_meaning.proofs.HeldLemmas.{assignments-are-held}
+use Rattle.sial_meaning.proofs.AssignmentsReadBack.Held.{assignments-are-held}
 use Rattle.sial_meaning.proofs.read_back.assignments_are_held.Goals as goal
 
 pub returns : goal.returns

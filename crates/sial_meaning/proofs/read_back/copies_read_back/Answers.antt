@@ -1,4 +1,4 @@
-use Rattle.sial_meaning.proofs.ReadBackLemmas.{copies-by-name, slices-by-position, inserts-by-position, insertions-keep-others}
+use Rattle.sial_meaning.proofs.AssignmentsReadBack.Elements.{copies-by-name, slices-by-position, inserts-by-position, insertions-keep-others}
 use Rattle.sial_meaning.proofs.read_back.copies_read_back.Goals as goal
 
 pub returns : goal.returns

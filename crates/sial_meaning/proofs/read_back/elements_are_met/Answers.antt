@@ -1,4 +1,4 @@
-use Rattle.sial_meaning.proofs.ReadBackLemmas.{each-element-is-met, as-many-elements}
+use Rattle.sial_meaning.proofs.AssignmentsReadBack.Elements.{each-element-is-met, as-many-elements}
 use Rattle.sial_meaning.proofs.read_back.elements_are_met.Goals as goal
 
 pub returns : goal.returns

@@ -1,4 +1,4 @@
-use Rattle.sial_meaning.proofs.CopyLemmas.{each-is-one-of-three, copies-read-back, slices-read-back, insertions-read-back, insertions-leave-the-rest}
+use Rattle.sial_meaning.proofs.AssignmentsReadBack.Copies.{each-is-one-of-three, copies-read-back, slices-read-back, insertions-read-back, insertions-leave-the-rest}
 use Rattle.sial_meaning.proofs.read_back.granted_copies_read_back.Goals as goal
 
 pub returns : goal.returns

@@ -1,4 +1,4 @@
-use Rattle.sial_meaning.proofs.JoinGranted.{sums-read-back, differences-read-back, outer-products-read-back, contractions-read-back, scalings-read-back}
+use Rattle.sial_meaning.proofs.AssignmentsReadBack.GrantedJoins.{sums-read-back, differences-read-back, outer-products-read-back, contractions-read-back, scalings-read-back}
 use Rattle.sial_meaning.proofs.read_back.granted_joins_read_back.Goals as goal
 
 pub returns : goal.returns

@@ -1,4 +1,4 @@
-use Rattle.sial_meaning.proofs.JoinLemmas.{sums-by-name, differences-by-name, outer-products-by-name, contractions-by-name, contractions-to-numbers, scalings-by-name, fills-everywhere}
+use Rattle.sial_meaning.proofs.AssignmentsReadBack.Joins.{sums-by-name, differences-by-name, outer-products-by-name, contractions-by-name, contractions-to-numbers, scalings-by-name, fills-everywhere}
 use Rattle.sial_meaning.proofs.read_back.joins_read_back.Goals as goal
 
 pub returns : goal.returns

@@ -1,4 +1,4 @@
-use Rattle.sial_meaning.proofs.WholeLemmas.{blocks-are-the-map, blocks-are-apart, absent-blocks-are-not-there, nothing-else-is-there, held-blocks-are-the-map}
+use Rattle.sial_meaning.proofs.StatesAreWhole.Blocks.{blocks-are-the-map, blocks-are-apart, absent-blocks-are-not-there, nothing-else-is-there, held-blocks-are-the-map}
 use Rattle.sial_meaning.proofs.whole.blocks_are_the_map.Goals as goal
 
 pub returns : goal.returns

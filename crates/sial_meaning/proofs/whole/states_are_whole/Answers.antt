@@ -1,5 +1,5 @@
-use Rattle.sial_meaning.proofs.WholeMaps.{blocks-of-states-are-the-map, locals-of-states-are-the-map, absent-locals-are-not-there, temps-of-states-are-the-map}
-use Rattle.sial_meaning.proofs.WholeSteps.{reached-states-are-whole, outcomes-are-reached}
+use Rattle.sial_meaning.proofs.StatesAreWhole.Maps.{blocks-of-states-are-the-map, locals-of-states-are-the-map, absent-locals-are-not-there, temps-of-states-are-the-map}
+use Rattle.sial_meaning.proofs.StatesAreWhole.Steps.{reached-states-are-whole, outcomes-are-reached}
 use Rattle.sial_meaning.proofs.whole.states_are_whole.Goals as goal
 
 pub returns : goal.returns

@@ -1,7 +1,29 @@
-use Rattle.sip_driver.specs.Top.{IsNotFirst}
-use Rattle.sip_driver.proofs.TopLemmas.{loaded}
+use Rattle.sip_files.specs.Loading.{Loading}
+use Rattle.sip_driver.specs.Asked.{named}
+use Rattle.sip_driver.specs.Prints.{Prints, PrintsPart, IsNotFirst}
+use Rattle.sip_driver.proofs.TopLemmas.{for_texts, starved}
 use Rattle.sip_driver.proofs.perform.perform.Goals as goal
+
+pub returns-in-Ok-clause-done : goal.returns-in-Ok-clause-done
+returns-in-Ok-clause-done g c = λ e.
+    for_texts (Loading g.F.Files.load_gives g.F.Files.told g.F.Files.faults g.F.Files.overlong) c.args.files.now c.load_texts.new.files (named c.args.program.now c.args.input.now)
+    _ _ _ _ (Prints (g.K.Sink.written c.args.out.now) (g.K.Sink.written c.run_texts.new.out))
+    c.in-Ok.ensures.read c.as_slice.ensures.value c.as_slice-in-Ok.ensures.value (c.run_texts.ensures.done e)
 
 pub returns-in-Ok-clause-not_first : goal.returns-in-Ok-clause-not_first
 returns-in-Ok-clause-not_first g c = λ e.
-    loaded _ _ _ _ _ _ IsNotFirst c.in-Ok.ensures.program c.in-Ok.ensures.input c.as_slice.ensures.value c.as_slice-in-Ok.ensures.value (c.run_texts.ensures.not_first e)
+    for_texts (Loading g.F.Files.load_gives g.F.Files.told g.F.Files.faults g.F.Files.overlong) c.args.files.now c.load_texts.new.files (named c.args.program.now c.args.input.now)
+    _ _ _ _ IsNotFirst
+    c.in-Ok.ensures.read c.as_slice.ensures.value c.as_slice-in-Ok.ensures.value (c.run_texts.ensures.not_first e)
+
+pub returns-in-Ok-clause-not_written : goal.returns-in-Ok-clause-not_written
+returns-in-Ok-clause-not_written g c = λ e.
+    for_texts (Loading g.F.Files.load_gives g.F.Files.told g.F.Files.faults g.F.Files.overlong) c.args.files.now c.load_texts.new.files (named c.args.program.now c.args.input.now)
+    _ _ _ _ (PrintsPart (g.K.Sink.written c.args.out.now) (g.K.Sink.written c.run_texts.new.out))
+    c.in-Ok.ensures.read c.as_slice.ensures.value c.as_slice-in-Ok.ensures.value (c.run_texts.ensures.not_written e)
+
+pub returns-in-Ok-clause-memory : goal.returns-in-Ok-clause-memory
+returns-in-Ok-clause-memory g c = λ e.
+    starved (Loading g.F.Files.load_gives g.F.Files.told g.F.Files.faults g.F.Files.overlong) c.args.files.now c.load_texts.new.files (named c.args.program.now c.args.input.now)
+    g.K.Sink.written c.args.out.now c.run_texts.new.out _ _ _ _
+    c.in-Ok.ensures.read c.as_slice.ensures.value c.as_slice-in-Ok.ensures.value (c.run_texts.ensures.memory e)

@@ -30,4 +30,4 @@ loop-self-preserved g c =
     }
 
 pub returns-else-run-clause-within : goal.returns-else-run-clause-within
-returns-else-run-clause-within g c = gone-le c.args.axes.now c.loop-self.self.left c.loop-self.self.at c.loop-self.invariant.stands.place
+returns-else-run-clause-within g c = gone-le c.args.axes.now c.loop-self.self.left c.loop-self.self.at c.loop-self.invariant.stands.position

@@ -1,4 +1,4 @@
-use Rattle.sial_meaning.proofs.AlongLemmas.{counts_rise, syncs_say_epochs, same_counts_one_point}
+use Rattle.sial_meaning.proofs.EpochsAlongTheCourse.Points.{counts_rise, syncs_say_epochs, same_counts_one_point}
 use Rattle.sial_meaning.proofs.laws.along.counts_along_the_course.Goals as goal
 
 pub returns : goal.returns

@@ -1,5 +1,5 @@
-use Rattle.sial_meaning.proofs.AlongDeeds.{steps_touch_in_epochs, blocks_are_copies_written}
-use Rattle.sial_meaning.proofs.AlongLemmas.{epochs_rise, one_epoch_one_copy}
+use Rattle.sial_meaning.proofs.EpochsAlongTheCourse.Deeds.{steps_touch_in_epochs, blocks_are_copies_written}
+use Rattle.sial_meaning.proofs.EpochsAlongTheCourse.Points.{epochs_rise, one_epoch_one_copy}
 use Rattle.sial_meaning.proofs.laws.along.epochs_along_the_course.Goals as goal
 
 pub returns : goal.returns

@@ -1,5 +1,5 @@
-use Rattle.sial_meaning.proofs.AlongNumbers.{points-have-numbers}
-use Rattle.sial_meaning.proofs.AlongWhole.{points-are-whole}
+use Rattle.sial_meaning.proofs.PointsAreWhole.Numbers.{points-have-numbers}
+use Rattle.sial_meaning.proofs.PointsAreWhole.Whole.{points-are-whole}
 use Rattle.sial_meaning.proofs.laws.along.points_are_whole.Goals as goal
 
 pub returns : goal.returns

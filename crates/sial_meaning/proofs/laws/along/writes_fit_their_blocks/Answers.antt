@@ -1,5 +1,5 @@
-use Rattle.sial_meaning.proofs.AlongFits.{writes-fit}
-use Rattle.sial_meaning.proofs.EpochFits.{epoch-writes-fit}
+use Rattle.sial_meaning.proofs.WritesFitTheirBlocks.Course.{writes-fit}
+use Rattle.sial_meaning.proofs.WritesFitTheirBlocks.Epochs.{epoch-writes-fit}
 use Rattle.sial_meaning.proofs.laws.along.writes_fit_their_blocks.Goals as goal
 
 pub returns : goal.returns

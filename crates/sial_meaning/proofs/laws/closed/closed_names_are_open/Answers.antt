@@ -1,4 +1,4 @@
-use Rattle.sial_meaning.proofs.ClosedLemmas.{closed-names-are-open, local-steps-keep-the-frame}
+use Rattle.sial_meaning.proofs.Granted.ClosedNames.{closed-names-are-open, local-steps-keep-the-frame}
 use Rattle.sial_meaning.proofs.laws.closed.closed_names_are_open.Goals as goal
 
 pub returns : goal.returns

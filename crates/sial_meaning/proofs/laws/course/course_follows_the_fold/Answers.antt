@@ -1,5 +1,5 @@
-use Rattle.sial_meaning.proofs.CourseLemmasSteps.{course_goes_on}
-use Rattle.sial_meaning.proofs.CourseLemmasWalk.{follows_fold, first_trap, steps_reach_it}
+use Rattle.sial_meaning.proofs.CourseFollowsTheFold.Steps.{course_goes_on}
+use Rattle.sial_meaning.proofs.CourseFollowsTheFold.Walk.{follows_fold, first_trap, steps_reach_it}
 use Rattle.sial_meaning.proofs.laws.course.course_follows_the_fold.Goals as goal
 
 pub returns : goal.returns

@@ -1,4 +1,4 @@
-use Rattle.sial_meaning.proofs.CourseLemmasKept.{iterations_keep, pardos_keep}
+use Rattle.sial_meaning.proofs.PardosKeepTheControl.OfTheCourse.{iterations_keep, pardos_keep}
 use Rattle.sial_meaning.proofs.laws.course.pardos_keep_the_control.Goals as goal
 
 pub returns : goal.returns

@@ -1,5 +1,5 @@
-use Rattle.sial_meaning.proofs.CourseDeedLemmas.{iterations_are_deeds, pardos_are_deeds}
-use Rattle.sial_meaning.proofs.CourseLogLemmas.{courses_are_deeds}
+use Rattle.sial_meaning.proofs.IterationsAreTheirDeeds.Pardos.{iterations_are_deeds, pardos_are_deeds}
+use Rattle.sial_meaning.proofs.IterationsAreTheirDeeds.Logs.{courses_are_deeds}
 use Rattle.sial_meaning.proofs.laws.deeds.iterations_are_their_deeds.Goals as goal
 
 pub returns : goal.returns

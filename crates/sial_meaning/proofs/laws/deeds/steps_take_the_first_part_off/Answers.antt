@@ -1,5 +1,5 @@
-use Rattle.sial_meaning.proofs.ToComeEnd.{iterations_end}
-use Rattle.sial_meaning.proofs.ToComeWalk.{all_to_come, takes_first, done_and_to_come, beginnings_are_inside, steps_stay_inside, statements_inside}
+use Rattle.sial_meaning.proofs.StepsTakeTheFirstPartOff.End.{iterations_end}
+use Rattle.sial_meaning.proofs.StepsTakeTheFirstPartOff.Walk.{all_to_come, takes_first, done_and_to_come, beginnings_are_inside, steps_stay_inside, statements_inside}
 use Rattle.sial_meaning.proofs.laws.deeds.steps_take_the_first_part_off.Goals as goal
 
 pub returns : goal.returns

@@ -1,4 +1,4 @@
-use Rattle.sial_meaning.proofs.RestLemmasFold.{reaches_fold}
+use Rattle.sial_meaning.proofs.StepsReachTheFold.Fold.{reaches_fold}
 use Rattle.sial_meaning.proofs.laws.rest.steps_reach_the_fold.Goals as goal
 
 pub returns : goal.returns
