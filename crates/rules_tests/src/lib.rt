@@ -1,0 +1,7 @@
+//! Trees and inputs, granted or refused, through public calls alone.
+#![tactic(auto)]
+
+#[cfg(test)]
+mod building;
+#[cfg(test)]
+mod shape_faults;

@@ -1,0 +1,5 @@
+pub mod ListLemmas
+pub mod ConditionLemmas
+pub mod BreaksLemmas
+pub mod FirstLemmas
+pub mod WalkLemmas

@@ -1,0 +1,4 @@
+pub mod Refused
+pub mod Known
+pub mod Breaks
+pub mod Walk
