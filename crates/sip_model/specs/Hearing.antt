@@ -19,7 +19,7 @@ use Rattle.sip_model.specs.Workers.{Waits, ForNothing, ForGive, ForRelease, ForT
 -- an awaited block that came: it is cached, and that is a use of it
 abbrev pub came : Named → (words : List ℕ) → Worker → Worker
 came block words x = record x {
-  awaited = filter (λ (b : Named). not (same_named b block)) x.awaited;
+  awaited = filter (λ (b : Named). not (same_named block b)) x.awaited;
   cache = x.cache ++ record { block = block; words = words; used = x.uses } ∷ [];
   uses = x.uses + 1;
 }
