@@ -1,0 +1,15 @@
+pub mod Big
+pub mod Records
+pub mod Needs
+pub mod BarrierRuns
+pub mod FirstRuns
+pub mod ChunksRuns
+pub mod TightRuns
+pub mod GoneRuns
+pub mod AgainRuns
+pub mod DiskRuns
+pub mod TopRuns
+pub mod ClashRuns
+pub mod MixRuns
+pub mod TwiceRuns
+pub mod SmallRuns

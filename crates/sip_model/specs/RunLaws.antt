@@ -1,0 +1,35 @@
+-- Laws that lead from the functions to the relations, and from plain runs to legal ones.
+use Rattle.std.specs.Prelude.{◌≡◌, ℕ, List, Option, Some}
+use Rattle.sial_meaning.specs.Setting.{Setting}
+use Rattle.sial_meaning.specs.Statement.{Named}
+use Rattle.sip_model.specs.declared.entry.Entry.{Entry}
+use Rattle.sip_model.specs.declared.options.Options.{Options}
+use Rattle.sip_model.specs.Acting.{action}
+use Rattle.sip_model.specs.Acts.{ActsBy}
+use Rattle.sip_model.specs.Enabled.{Choice, enabled, taken}
+use Rattle.sip_model.specs.Legal as run
+use Rattle.sip_model.specs.Legal.{Standing, Legal}
+use Rattle.sip_model.specs.Machines.{Machine}
+use Rattle.sip_model.specs.Performing.{Permits, perform}
+use Rattle.sip_model.specs.Steps.{Reach, Leads}
+use Rattle.sip_model.specs.Workers.{Worker}
+
+-- a worker's action is one that the relation has
+abbrev pub ActionsAreActs : Type 0
+ActionsAreActs = (g : Setting) (o : Options) (x : Worker) → ActsBy g o x (action g o x)
+
+-- an entry that a choice takes, performed with a permitted drop, leads where the relations say
+abbrev pub EntriesAreSteps : Type 0
+EntriesAreSteps =
+    (g : Setting) (o : Options) (s : Machine) (choice : ℕ) (c : Choice) (dropped : Option Named)
+    → taken choice (enabled g o s) ≡ Some c → Permits g o s c dropped → Leads g o s (perform g o s c dropped)
+
+-- the state of a legal run is one that entries lead to
+abbrev pub RunsReach : Type 0
+RunsReach = (g : Setting) (o : Options) (choices : ℕ → ℕ) (entries : List Entry) (s : Machine) (standing : Standing) → Legal g o choices entries s standing → Reach g o s
+
+-- a plain run is legal
+abbrev pub PlainRunsAreLegal : Type 0
+PlainRunsAreLegal =
+    (g : Setting) (o : Options) (choices : ℕ → ℕ) (entries : List Entry) (s : Machine) (standing : Standing)
+    → run.Plain g o choices entries s standing → Legal g o choices entries s standing
