@@ -1,5 +1,5 @@
 -- What the machine promises of all its runs. Each is a named statement; one that no public function ensures is claimed nowhere.
-use Rattle.std.specs.Prelude.{◌≡◌, ◌≢◌, ℕ, ◌+◌, ◌^◌, ◌≤◌, ◌<◌, List, [], length, count_by, false, ◌⊎◌, Option, Some, None}
+use Rattle.std.specs.Prelude.{◌≡◌, ◌≢◌, ℕ, ◌+◌, ◌≤◌, ◌<◌, List, [], length, count_by, false, ◌⊎◌, Option, Some, None}
 use Rattle.std.specs.List.{Contains}
 use Rattle.sial_syntax.specs.declared.access.Class.{Class}
 use Rattle.sial_syntax.specs.declared.access.Class.TheVariants.{Distributed}
@@ -18,6 +18,7 @@ use Rattle.sip_model.specs.declared.entry.Entry.{Entry}
 use Rattle.sip_model.specs.declared.message.Body.{Body}
 use Rattle.sip_model.specs.declared.message.Body.TheVariants as body
 use Rattle.sip_model.specs.declared.options.Options.{Options}
+use Rattle.sip_model.specs.CountsOf.{most_steps}
 use Rattle.sip_model.specs.Flight.{Flying}
 use Rattle.sip_model.specs.Legal as run
 use Rattle.sip_model.specs.Legal.{Standing, Open, AllDone, Stuck, InTrap, InConflict, Legal}
@@ -186,7 +187,7 @@ PoolsSuffice =
 
 -- ending: a run has no more entries than the bound, where that is within its limit
 abbrev pub Ending : Type 0
-Ending = OfRuns (λ g o entries s standing. step_bound g o.workers ≤ 2 ^ 62 → length entries ≤ step_bound g o.workers)
+Ending = OfRuns (λ g o entries s standing. step_bound g o.workers ≤ most_steps → length entries ≤ step_bound g o.workers)
 
 -- the rule is tight: only an accepted program has a run that is done
 abbrev pub OnlyAcceptedEndWell : Type 0
