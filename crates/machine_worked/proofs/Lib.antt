@@ -1,1 +1,2 @@
 pub mod RunsAre
+pub mod NeedsAre

@@ -52,7 +52,7 @@
 --        const nmo = 2
 --        segments ao 7 7 6
 --        segments mo 3 2
-use Rattle.std.specs.Prelude.{ℕ, List, [], ◌∷◌, codes}
+use Rattle.std.specs.Prelude.{ℕ, List, [], ◌∷◌, ◌++◌, replicate, codes}
 use Rattle.sial_syntax.specs.declared.access.Access.TheVariants as access
 use Rattle.sial_syntax.specs.declared.array.ArrayDecl.{ArrayDecl}
 use Rattle.sial_syntax.specs.declared.array.ArrayKind.{ArrayKind}
@@ -166,9 +166,8 @@ abbrev pub big : Setting
 big = record {
   program = big_program;
   scalars = scalar.Partial ∷ scalar.Replicated ∷ [];
-  sides = side.Unused ∷ side.Unused ∷ side.Unused ∷ side.Unused ∷ side.Unused ∷ side.Unused ∷ side.Unused ∷ side.Unused ∷ [];
-  spaces = spaces_of (7 ∷ 7 ∷ 6 ∷ []) (3 ∷ 2 ∷ [])
-      (Segments kind.Ao 1 3 ∷ Segments kind.Ao 1 3 ∷ Segments kind.Ao 1 3 ∷ Segments kind.Ao 1 3 ∷ Segments kind.Mo 1 2 ∷ Segments kind.Mo 1 2 ∷ []);
+  sides = replicate 8 side.Unused;
+  spaces = spaces_of (7 ∷ 7 ∷ 6 ∷ []) (3 ∷ 2 ∷ []) (replicate 4 (Segments kind.Ao 1 3) ++ replicate 2 (Segments kind.Mo 1 2));
   numbers = 0 ∷ 0 ∷ [];
   blocks = [];
 }

@@ -1,8 +1,8 @@
 -- Recorded runs of a pardo of three iterations with two workers, entry by entry, under three lists of choices.
-use Rattle.std.specs.Prelude.{List, [], ◌∷◌, replicate}
-use Rattle.sial_worked.specs.Chunks.{chunks_three}
+use Rattle.std.specs.Prelude.{◌≡◌, ◌+◌, ◌*◌, List, [], ◌∷◌, length, replicate}
+use Rattle.sial_worked.specs.Chunks.{chunks, chunks_three, chunks_none}
 use Rattle.sip_model.specs.declared.entry.Entry.{Entry}
-use Rattle.sip_model.specs.Legal.{AllDone}
+use Rattle.sip_model.specs.Legal.{AllDone, choices_of, plain_run}
 use Rattle.machine_worked.specs.Records.{quiet, of_workers, Recorded}
 
 -- its entries where each choice is 0
@@ -40,3 +40,12 @@ pub record ChunksRecorded : Type 0 where
   pub mixed : Recorded chunks_three (of_workers 2)
       (1 ∷ 0 ∷ 2 ∷ 5 ∷ 3 ∷ 1 ∷ 4 ∷ 0 ∷ 7 ∷ 2 ∷ 2 ∷ 9 ∷ 1 ∷ 0 ∷ 3 ∷ 6 ∷ 5 ∷ 1 ∷ 8 ∷ 0 ∷ 2 ∷ 4 ∷ [])
       chunks_three_mixed AllDone []
+
+-- a pardo of N iterations in c chunks has 2W + N + 3(c + W) entries, whatever the choices are
+pub record ChunksCounted : Type 0 where
+  -- chunks of 4, 3 and 2, and seven of 1
+  pub sixteen : length (plain_run chunks (of_workers 2) (choices_of []) 99).entries ≡ 2 * 2 + 16 + 3 * (10 + 2)
+  pub sixteen_mixed : length (plain_run chunks (of_workers 2) (choices_of (replicate 40 7)) 99).entries ≡ 2 * 2 + 16 + 3 * (10 + 2)
+  -- three chunks of 1
+  pub three : length (plain_run chunks_three (of_workers 32) (choices_of (replicate 99 41)) 199).entries ≡ 2 * 32 + 3 + 3 * (3 + 32)
+  pub none : length (plain_run chunks_none (of_workers 2) (choices_of []) 99).entries ≡ 2 * 2 + 0 + 3 * (0 + 2)

@@ -40,7 +40,9 @@ abbrev pub of_workers : ℕ → Options
 of_workers workers = record { workers = workers; servers = 1; cache = 16; puts = 4; server_cache = 16; place = [] }
 
 -- the plain run under these choices has these entries, stands so, and has printed these lines
-pub record Recorded (g : Setting) (o : Options) (choices : List ℕ) (entries : List Entry) (standing : Standing) (printed : List (List ℕ)) : Type 0 where
+pub record Recorded
+    (g : Setting) (o : Options) (choices : List ℕ) (entries : List Entry) (standing : Standing) (printed : List (List ℕ))
+    : Type 0 where
   pub entries_are : (plain_run g o (choices_of choices) (suc (length entries))).entries ≡ entries
   pub stands : (plain_run g o (choices_of choices) (suc (length entries))).standing ≡ standing
   pub lines_are : lines g (plain_run g o (choices_of choices) (suc (length entries))).state ≡ printed

@@ -1,4 +1,5 @@
--- Recorded runs of two pardos and a collected sum with three workers, a cache of two blocks and one put, entry by entry, under three lists of choices.
+-- Recorded runs of two pardos and a collected sum with three workers, a cache of two blocks and one put,
+-- entry by entry, under three lists of choices.
 use Rattle.std.specs.Prelude.{ℕ, List, [], ◌∷◌, replicate, codes}
 use Rattle.sial_worked.specs.Small.{small}
 use Rattle.sip_model.specs.declared.entry.Entry.{Entry}

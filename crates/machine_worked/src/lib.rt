@@ -2,8 +2,9 @@
 #![tactic(auto)]
 
 ghost use Rattle.machine_worked.specs.AgainRuns.{AgainRecorded};
+ghost use Rattle.machine_worked.specs.Big.{big};
 ghost use Rattle.machine_worked.specs.BarrierRuns.{BarrierRecorded};
-ghost use Rattle.machine_worked.specs.ChunksRuns.{ChunksRecorded};
+ghost use Rattle.machine_worked.specs.ChunksRuns.{ChunksCounted, ChunksRecorded};
 ghost use Rattle.machine_worked.specs.ClashRuns.{ClashRecorded};
 ghost use Rattle.machine_worked.specs.DiskRuns.{DiskRecorded};
 ghost use Rattle.machine_worked.specs.FirstRuns.{FirstRecorded};
@@ -14,6 +15,7 @@ ghost use Rattle.machine_worked.specs.SmallRuns.{SmallRecorded};
 ghost use Rattle.machine_worked.specs.TightRuns.{TightRecorded};
 ghost use Rattle.machine_worked.specs.TopRuns.{TopRecorded};
 ghost use Rattle.machine_worked.specs.TwiceRuns.{TwiceRecorded};
+ghost use Rattle.sial_meaning.specs.Sound.{IsSound};
 
 /// Recorded runs that end done, entry by entry: which are enabled, which is taken, what it does, and what is printed.
 pub fn worked_runs()
@@ -35,7 +37,13 @@ pub fn worked_ends()
     ensures twice { TwiceRecorded }
 {}
 
-/// Slots, words and entries that programs need.
+/// Slots, words and entries that programs need, and that the large one among them is sound.
 pub fn worked_needs()
-    ensures { NeedsAreCounted }
+    ensures counted { NeedsAreCounted }
+    ensures sound { IsSound big }
+{}
+
+/// How many entries a pardo has with nothing inside.
+pub fn worked_chunks()
+    ensures { ChunksCounted }
 {}

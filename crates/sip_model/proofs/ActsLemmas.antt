@@ -24,7 +24,8 @@ use Rattle.sip_model.specs.RunLaws.{ActionsAreActs}
 use Rattle.sip_model.specs.Workers.{Waits, ForNothing, ForGive, ForRelease, ForTotal, Worker, is_cached, is_awaited, is_transferring}
 
 -- taking a tuple up leads on
-begun-goes : (met : Bool) (pardo : PardoAt) (number : ℕ) (rest : Rest) (own : Own) (trap : Trap) → begun met pardo number rest own ≡ Halts trap → ⊥
+begun-goes : (met : Bool) (pardo : PardoAt) (number : ℕ) (rest : Rest) (own : Own) (trap : Trap)
+    → begun met pardo number rest own ≡ Halts trap → ⊥
 begun-goes true pardo number rest own trap e = absurd cc
 begun-goes false pardo number rest own trap e = absurd cc
 
@@ -58,7 +59,8 @@ module _ (g : Setting) (o : Options) (x : Worker) where
 
   -- the end of a body where the work stands there
   by-ending : (r : Rest) → x.waits ≡ ForNothing → x.rest ≡ r → ActsBy g o x (ending g x r)
-  by-ending (Within pardo number rest) free e = by-end pardo number rest x.chunk.count x.told (record { free = free; within = e; count = refl }) refl
+  by-ending (Within pardo number rest) free e =
+      by-end pardo number rest x.chunk.count x.told (record { free = free; within = e; count = refl }) refl
   by-ending (Over at) free e = tt
   by-ending (Next at line form rest) free e = tt
   by-ending (Turn loop last rest) free e = tt
@@ -103,12 +105,14 @@ module _ (g : Setting) (o : Options) (x : Worker) where
         → ActsBy g o x (with_operands g o x line form more (operands g x blocks) (list_all (is_cached x) (operands g x blocks)))
     by-operands blocks q = go (list_all (is_cached x) (operands g x blocks)) refl
       where
-        go : (b : Bool) → list_all (is_cached x) (operands g x blocks) ≡ b → ActsBy g o x (with_operands g o x line form more (operands g x blocks) b)
+        go : (b : Bool) → list_all (is_cached x) (operands g x blocks) ≡ b
+            → ActsBy g o x (with_operands g o x line form more (operands g x blocks) b)
         go true e = by-values blocks q e
         go false e = by-missing blocks q e
 
     -- `get` and `request`
-    by-get : (block : BlockRef) → asked g form ≡ next.Get block → (cached awaited : Bool) → is_cached x (named g x.own block) ≡ cached → is_awaited x (named g x.own block) ≡ awaited
+    by-get : (block : BlockRef) → asked g form ≡ next.Get block → (cached awaited : Bool) → is_cached x (named g x.own block) ≡ cached
+        → is_awaited x (named g x.own block) ≡ awaited
         → ActsBy g o x (getting o x line more (named g x.own block) cached awaited)
     by-get block q true awaited c a = has line form more block st q c
     by-get block q false true c a = awaits line form more block st q c a
@@ -119,14 +123,16 @@ module _ (g : Setting) (o : Options) (x : Worker) where
         room false r = tt
 
     -- `put` and `prepare`
-    by-put : (block : BlockRef) (how : Access) (from : BlockRef) → asked g form ≡ next.Put block how from → (may : Bool) (a : Answer (List ℕ)) → nat_lt (length x.puts) o.puts ≡ may
+    by-put : (block : BlockRef) (how : Access) (from : BlockRef) → asked g form ≡ next.Put block how from
+        → (may : Bool) (a : Answer (List ℕ)) → nat_lt (length x.puts) o.puts ≡ may
         → words_of g x.own from [] ≡ a → ActsBy g o x (putting x line more (named g x.own block) how may a)
     by-put block how from q may (Err kind) m e = by_source line form more block how from kind st q e
     by-put block how from q true (Ok words) m e = puts line form more block how from words st q m e
     by-put block how from q false (Ok words) m e = tt
 
     -- a sync point
-    by-sync : (class : Class) → asked g form ≡ next.Sync class → (busy : Bool) → is_transferring x class ≡ busy → ActsBy g o x (arriving class form busy)
+    by-sync : (class : Class) → asked g form ≡ next.Sync class → (busy : Bool) → is_transferring x class ≡ busy
+        → ActsBy g o x (arriving class form busy)
     by-sync class q true e = tt
     by-sync class q false e = arrives line form more class st q e
 
@@ -141,8 +147,10 @@ module _ (g : Setting) (o : Options) (x : Worker) where
 
   -- a statement
   by-statement : (line : ℕ) (form : Plain) (more : Rest) → x.waits ≡ ForNothing → next_of x.rest ≡ next.Statement line form more
-      → (t : Option TrapKind) → created_trap g form x.own ≡ t → ActsBy g o x (unless_missing line t (asking g o x line form more (asked g form)))
-  by-statement line form more free comes None e = by-asked line form more (record { free = free; comes = comes; flags = e }) (asked g form) refl
+      → (t : Option TrapKind) → created_trap g form x.own ≡ t
+      → ActsBy g o x (unless_missing line t (asking g o x line form more (asked g form)))
+  by-statement line form more free comes None e =
+      by-asked line form more (record { free = free; comes = comes; flags = e }) (asked g form) refl
   by-statement line form more free comes (Some kind) e = by_flags line form more kind free comes e
 
   -- by what comes next

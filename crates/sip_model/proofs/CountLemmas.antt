@@ -34,7 +34,8 @@ counted-append p [] ys = omega arith
 counted-append p (x ∷ xs) ys = omega (arith, counted-append p xs ys)
 
 -- with one member between
-pub counted-mid : {A : Type 0} (p : A → Bool) (xs : List A) (x : A) (ys : List A) → counted p (xs ++ x ∷ ys) ≡ counted p (xs ++ ys) + one_if (p x)
+pub counted-mid : {A : Type 0} (p : A → Bool) (xs : List A) (x : A) (ys : List A)
+    → counted p (xs ++ x ∷ ys) ≡ counted p (xs ++ ys) + one_if (p x)
 counted-mid p xs x ys = omega (arith, counted-append p xs (x ∷ ys), counted-append p xs ys)
 
 -- what doesn't fall short
@@ -61,7 +62,8 @@ pub filter-shorter : {A : Type 0} (p : A → Bool) (xs : List A) → list_any p 
 filter-shorter p [] e = absurd cc
 filter-shorter {A = A} p (x ∷ xs) e = go (p x) refl (filter-short (λ y. not (p y)) xs) (filter-shorter p xs) e
   where
-    go : (b : Bool) → p x ≡ b → length (filter (λ y. not (p y)) xs) ≤ length xs → (list_any p xs ≡ true → length (filter (λ y. not (p y)) xs) + 1 ≤ length xs)
+    go : (b : Bool) → p x ≡ b → length (filter (λ y. not (p y)) xs) ≤ length xs
+        → (list_any p xs ≡ true → length (filter (λ y. not (p y)) xs) + 1 ≤ length xs)
         → list_any p (x ∷ xs) ≡ true → length (filter (λ y. not (p y)) (x ∷ xs)) + 1 ≤ length (x ∷ xs)
     go true q h more e = rw q (omega arith)
     go false q h more e = let r : list_any p xs ≡ true = rw q at e in let k = more r in rw q (omega arith)
@@ -76,7 +78,8 @@ some-pass p (x ∷ xs) e n = go (p x) refl (some-pass p xs) e n
     go false q more e n = more (rw q at e) (rw q at n)
 
 -- what is found among what a function makes of some members is found among all
-pub found-before : {A B : Type 0} (p : A → Bool) (f : A → B) (q : B → Bool) (xs : List A) → list_any q (map f (filter p xs)) ≡ true → list_any (λ x. q (f x)) xs ≡ true
+pub found-before : {A B : Type 0} (p : A → Bool) (f : A → B) (q : B → Bool) (xs : List A) → list_any q (map f (filter p xs)) ≡ true
+    → list_any (λ x. q (f x)) xs ≡ true
 found-before p f q [] e = absurd cc
 found-before p f q (x ∷ xs) e = go (p x) (q (f x)) refl refl (found-before p f q xs) e
   where
@@ -87,7 +90,8 @@ found-before p f q (x ∷ xs) e = go (p x) (q (f x)) refl refl (found-before p f
     go false false t u more e = rw u (more (rw t at e))
 
 -- a fact of each member, where one was replaced
-pub each-set : {A : Type 0} (P : ℕ → A → Type 0) (xs : List A) (i : ℕ) (x d : A) → P i x → ((v : ℕ) → (v ≡ i → ⊥) → v < length xs → P v (slice_index_or xs v d))
+pub each-set : {A : Type 0} (P : ℕ → A → Type 0) (xs : List A) (i : ℕ) (x d : A) → P i x
+    → ((v : ℕ) → (v ≡ i → ⊥) → v < length xs → P v (slice_index_or xs v d))
     → (v : ℕ) → v < length xs → P v (slice_index_or (slice_set xs i x) v d)
 each-set P xs i x d here others v l =
     ⊎_elim

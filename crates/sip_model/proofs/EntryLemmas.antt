@@ -51,10 +51,12 @@ module _ (g : Setting) (x : Worker) where
 
   -- a Total
   module _ (sync sum : ℕ) (words : List ℕ) where
-    untotalled : (w : Waits) (t : Task) → x.waits ≡ w → next_of x.rest ≡ t → (is_for_total w && comes g is_collect t) ≡ false → Hears g x (body.Total sync sum) words x
+    untotalled : (w : Waits) (t : Task) → x.waits ≡ w → next_of x.rest ≡ t → (is_for_total w && comes g is_collect t) ≡ false
+        → Hears g x (body.Total sync sum) words x
     untotalled w t e n f = hears_untotalled sync sum words (rw (e, n) f)
 
-    total-as : (line : ℕ) (form : Plain) (more : Rest) (a : Asks) → x.waits ≡ ForTotal → next_of x.rest ≡ next.Statement line form more → asked g form ≡ a
+    total-as : (line : ℕ) (form : Plain) (more : Rest) (a : Asks) → x.waits ≡ ForTotal → next_of x.rest ≡ next.Statement line form more
+        → asked g form ≡ a
         → Hears g x (body.Total sync sum) words (totalled_as sum more a x)
     total-as line form more (next.Collect into from) e n q = hears_total sync sum words line form more into from e n q
     total-as line form more next.Local e n q = untotalled _ _ e n (rw q refl)
@@ -77,10 +79,12 @@ module _ (g : Setting) (x : Worker) where
     total-heard ForRelease e = untotalled _ _ e refl refl
 
   -- a Release
-  unreleased-at : (w : Waits) (t : Task) → x.waits ≡ w → next_of x.rest ≡ t → (is_for_release w && comes g is_sync t) ≡ false → Released g x x None
+  unreleased-at : (w : Waits) (t : Task) → x.waits ≡ w → next_of x.rest ≡ t → (is_for_release w && comes g is_sync t) ≡ false
+      → Released g x x None
   unreleased-at w t e n f = unreleased (rw (e, n) f)
 
-  release-as : (line : ℕ) (form : Plain) (more : Rest) (a : Asks) → x.waits ≡ ForRelease → next_of x.rest ≡ next.Statement line form more → asked g form ≡ a
+  release-as : (line : ℕ) (form : Plain) (more : Rest) (a : Asks) → x.waits ≡ ForRelease → next_of x.rest ≡ next.Statement line form more
+      → asked g form ≡ a
       → Released g x (released_as form more a x) (deleted_as form a)
   release-as line form more (next.Sync class) e n q = released line form more class e n q
   release-as line form more next.Local e n q = unreleased-at _ _ e n (rw q refl)
@@ -115,33 +119,38 @@ module _ (g : Setting) (o : Options) (s : Machine) (place : ℕ) (f : Flying) (a
   splits = place-splits s.flight place f at
 
   -- an access to a distributed block
-  home-leads : (block : ℕ) (access : Accessing) (answer : List ℕ → Flying) → Accesses f Distributed block access answer → (c : Option Clash) → clash_at (cell_at s.homed block) access ≡ c
+  home-leads : (block : ℕ) (access : Accessing) (answer : List ℕ → Flying) → Accesses f Distributed block access answer
+      → (c : Option Clash) → clash_at (cell_at s.homed block) access ≡ c
       → Leads g o s (unless_clash Distributed block access.epoch c (at_home (taking_out place s) block access answer))
   home-leads block access answer a None e = comes_home before f behind block access answer splits a e
   home-leads block access answer a (Some clash) e = clashes before f behind Distributed block access answer clash splits a e
 
   -- an access to a served block
-  server-leads : (block : ℕ) (access : Accessing) (answer : List ℕ → Flying) → Accesses f Served block access answer → (c : Option Clash) → clash_at (cell_at s.stored block) access ≡ c
+  server-leads : (block : ℕ) (access : Accessing) (answer : List ℕ → Flying) → Accesses f Served block access answer → (c : Option Clash)
+      → clash_at (cell_at s.stored block) access ≡ c
       → IsTrue (is_permitted (evicted_for o s block c) dropped)
       → Leads g o s (unless_clash Served block access.epoch c (at_server o (taking_out place s) block access (number_dropped dropped) answer))
   server-leads block access answer a None e p = comes_to_server before f behind block access answer dropped splits a e p
   server-leads block access answer a (Some clash) e p = clashes before f behind Served block access answer clash splits a e
 
   -- an Ask
-  ask-leads : (instance number : ℕ) → f.message.body ≡ body.Ask instance number → may_ask o.workers s.master instance number ≡ true → (b : Bool)
+  ask-leads : (instance number : ℕ) → f.message.body ≡ body.Ask instance number → may_ask o.workers s.master instance number ≡ true
+      → (b : Bool)
       → nat_lt (instance_at s.master instance).next (box_at g (worker_at g s f.message.from).rest) ≡ b
       → Leads g o s (Moved (with_answer f.message.from (answered o.workers f.message.from instance number (box_at g (worker_at g s f.message.from).rest) s.master) (taking_out place s)))
   ask-leads instance number is may true e = rw e (gives before f behind instance number splits is may e)
   ask-leads instance number is may false e = rw e (says_none before f behind instance number splits is may e)
 
   -- an arrival
-  arrival-leads : (m : Master) (sync number : ℕ) (answer : Body) → Meets o s.master f m sync number answer → (b : Bool) → is_met o.workers sync number m ≡ b
+  arrival-leads : (m : Master) (sync number : ℕ) (answer : Body) → Meets o s.master f m sync number answer → (b : Bool)
+      → is_met o.workers sync number m ≡ b
       → Leads g o s (Moved (met_by o (taking_out place s) m b answer))
   arrival-leads m sync number answer a true e = meets before f behind m sync number answer splits a e
   arrival-leads m sync number answer a false e = waits before f behind m sync number answer splits a e
 
   -- a message that a worker hears
-  hearing-leads : (b : Body) (x : Worker) → f.message.body ≡ b → Hears g (worker_at g s f.message.to) b f.words x → Leads g o s (Moved (with_worker f.message.to x (taking_out place s)))
+  hearing-leads : (b : Body) (x : Worker) → f.message.body ≡ b → Hears g (worker_at g s f.message.to) b f.words x
+      → Leads g o s (Moved (with_worker f.message.to x (taking_out place s)))
   hearing-leads b x is h = hears before f behind x splits (subst (λ c. Hears g (worker_at g s f.message.to) c f.words x) (sym is) h)
 
   -- by what the message says
@@ -149,14 +158,18 @@ module _ (g : Setting) (o : Options) (s : Machine) (place : ℕ) (f : Flying) (a
       → Leads g o s (delivered g o (taking_out place s) (number_dropped dropped) f.message.from f.message.to f.words b)
   body-leads (body.Request Distributed block epoch line) is may p = home-leads block _ _ (reads Distributed block epoch line is) _ refl
   body-leads (body.Request Served block epoch line) is may p = server-leads block _ _ (reads Served block epoch line is) _ refl p
-  body-leads (body.Put Distributed block epoch line how put origin) is may p = home-leads block _ _ (writes Distributed block epoch line how put origin is) _ refl
-  body-leads (body.Put Served block epoch line how put origin) is may p = server-leads block _ _ (writes Served block epoch line how put origin is) _ refl p
-  body-leads (body.Reply class block) is may p = hearing-leads _ _ is (reply-heard g (worker_at g s f.message.to) class block f.words _ refl)
+  body-leads (body.Put Distributed block epoch line how put origin) is may p =
+      home-leads block _ _ (writes Distributed block epoch line how put origin is) _ refl
+  body-leads (body.Put Served block epoch line how put origin) is may p =
+      server-leads block _ _ (writes Served block epoch line how put origin is) _ refl p
+  body-leads (body.Reply class block) is may p =
+      hearing-leads _ _ is (reply-heard g (worker_at g s f.message.to) class block f.words _ refl)
   body-leads (body.Ack put) is may p = hearing-leads _ _ is (hears_ack put f.words)
   body-leads (body.Ask instance number) is may p = ask-leads instance number is may _ refl
   body-leads (body.Give given) is may p = hearing-leads _ _ is (give-heard g (worker_at g s f.message.to) given f.words _ refl)
   body-leads (body.Arrive sync number) is may p = arrival-leads _ sync number _ (arriving sync number is) _ refl
-  body-leads (body.Release sync) is may p = releases before f behind sync _ _ splits is (release-heard g (worker_at g s f.message.to) _ refl)
+  body-leads (body.Release sync) is may p =
+      releases before f behind sync _ _ splits is (release-heard g (worker_at g s f.message.to) _ refl)
   body-leads (body.Contribute sync number value) is may p = arrival-leads _ sync number _ (contributing sync number value is) _ refl
   body-leads (body.Total sync sum) is may p = hearing-leads _ _ is (total-heard g (worker_at g s f.message.to) sync sum f.words _ refl)
 
@@ -192,10 +205,12 @@ servers-ready g o s =
 -- each entry of the enabled list
 pub enabled-ready : (g : Setting) (o : Options) (s : Machine) → AllIn (IsReady g o s) (enabled g o s)
 unfolding enabled
-enabled-ready g o s = all-append (IsReady g o s) _ _ (workers-ready g o s) (all-append (IsReady g o s) _ _ (messages-ready g o s) (servers-ready g o s))
+enabled-ready g o s =
+    all-append (IsReady g o s) _ _ (workers-ready g o s) (all-append (IsReady g o s) _ _ (messages-ready g o s) (servers-ready g o s))
 
 -- a worker's action
-action-leads : (g : Setting) (o : Options) (s : Machine) (w : ℕ) (dropped : Option Named) → w < o.workers → (a : Action) → is_something a ≡ true → ActsBy g o (worker_at g s w) a
+action-leads : (g : Setting) (o : Options) (s : Machine) (w : ℕ) (dropped : Option Named) → w < o.workers → (a : Action)
+    → is_something a ≡ true → ActsBy g o (worker_at g s w) a
     → IsTrue (is_permitted (dropped_by g o (worker_at g s w) a) dropped) → Leads g o s (performed_by g o s w dropped a)
 action-leads g o s w dropped l Idle i h p = absurd cc
 action-leads g o s w dropped l (Halt trap) i h p = (l, h)
@@ -209,9 +224,11 @@ action-leads g o s w dropped l (Contribute value) i h p = acts w (Contribute val
 action-leads g o s w dropped l Ask i h p = acts w Ask dropped l h p
 
 -- an entry that is enabled
-ready-leads : (g : Setting) (o : Options) (s : Machine) (c : Choice) (dropped : Option Named) → IsReady g o s c → Permits g o s c dropped → Leads g o s (perform g o s c dropped)
+ready-leads : (g : Setting) (o : Options) (s : Machine) (c : Choice) (dropped : Option Named) → IsReady g o s c → Permits g o s c dropped
+    → Leads g o s (perform g o s c dropped)
 unfolding perform
-ready-leads g o s (ByWorker w) dropped r p = action-leads g o s w dropped r.0 (action g o (worker_at g s w)) r.1 (actions-are-acts g o (worker_at g s w)) p
+ready-leads g o s (ByWorker w) dropped r p =
+    action-leads g o s w dropped r.0 (action g o (worker_at g s w)) r.1 (actions-are-acts g o (worker_at g s w)) p
 ready-leads g o s (ByMessage place) dropped r p =
     subst (λ z. Leads g o s (delivered_at g o s place dropped z)) (sym r.1.0)
     (body-leads g o s place r.0 r.1.0 dropped r.0.message.body refl r.1.1 (subst (λ z. IsTrue (is_permitted (evicted_if o s z) dropped)) r.1.0 p))
@@ -219,4 +236,5 @@ ready-leads g o s (ByServer v) dropped r p = flushes v r.0 r.1
 
 -- an entry that a choice takes
 pub entries-are-steps : EntriesAreSteps
-entries-are-steps g o s choice c dropped t p = ready-leads g o s c dropped (all-at (IsReady g o s) (enabled g o s) (place_taken choice (enabled g o s)) c (enabled-ready g o s) t) p
+entries-are-steps g o s choice c dropped t p =
+    ready-leads g o s c dropped (all-at (IsReady g o s) (enabled g o s) (place_taken choice (enabled g o s)) c (enabled-ready g o s) t) p

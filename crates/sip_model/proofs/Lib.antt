@@ -4,4 +4,6 @@ pub mod EntryLemmas
 pub mod ReachLemmas
 pub mod CountLemmas
 pub mod WorkerTraffic
+pub mod MachineTraffic
 pub mod BoundedTraffic
+pub mod PlainLemmas

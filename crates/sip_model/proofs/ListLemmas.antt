@@ -27,22 +27,26 @@ all-map P f [] h = tt
 all-map P f (x ∷ xs) h = (h.0, all-map P f xs h.1)
 
 -- of a member that passes a test or not, before members that pass it
-filter-more : {A : Type 0} (P : A → Type 0) (p : A → Bool) (x : A) (xs : List A) → (b : Bool) → p x ≡ b → (b ≡ true → P x) → AllIn P (filter p xs) → AllIn P (filter p (x ∷ xs))
+filter-more : {A : Type 0} (P : A → Type 0) (p : A → Bool) (x : A) (xs : List A) → (b : Bool) → p x ≡ b → (b ≡ true → P x)
+    → AllIn P (filter p xs) → AllIn P (filter p (x ∷ xs))
 filter-more P p x xs true e h r = rw e (h refl, r)
 filter-more P p x xs false e h r = rw e r
 
 -- of those that pass a test
-pub all-filter : {A : Type 0} (P Q : A → Type 0) (p : A → Bool) → ((a : A) → Q a → p a ≡ true → P a) → (xs : List A) → AllIn Q xs → AllIn P (filter p xs)
+pub all-filter : {A : Type 0} (P Q : A → Type 0) (p : A → Bool) → ((a : A) → Q a → p a ≡ true → P a) → (xs : List A) → AllIn Q xs
+    → AllIn P (filter p xs)
 all-filter P Q p f [] h = tt
 all-filter P Q p f (x ∷ xs) h = filter-more P p x xs (p x) refl (λ e. f x h.0 e) (all-filter P Q p f xs h.1)
 
 -- of numbers in a row
 pub all-numbers : (P : ℕ → Type 0) (first n : ℕ) → ((k : ℕ) → first ≤ k → k < first + n → P k) → AllIn P (numbers_from first n)
 all-numbers P first zero h = tt
-all-numbers P first (suc n) h = (h first (omega arith) (omega arith), all-numbers P (first + 1) n (λ k l m. h k (omega arith) (omega arith)))
+all-numbers P first (suc n) h =
+    (h first (omega arith) (omega arith), all-numbers P (first + 1) n (λ k l m. h k (omega arith) (omega arith)))
 
 -- of members with their places, counted from a number on
-pub all-enumerated : {A : Type 0} (P : ℕ × A → Type 0) (first : ℕ) (xs : List A) → ((i : ℕ) (x : A) → at_place xs i ≡ Some x → P (first + i, x)) → AllIn P (enumerate_from first xs)
+pub all-enumerated : {A : Type 0} (P : ℕ × A → Type 0) (first : ℕ) (xs : List A)
+    → ((i : ℕ) (x : A) → at_place xs i ≡ Some x → P (first + i, x)) → AllIn P (enumerate_from first xs)
 all-enumerated P first [] h = tt
 all-enumerated P first (x ∷ xs) h = (subst (λ n. P (n, x)) (omega arith) (h 0 x refl), all-enumerated P (first + 1) xs (λ i y e. subst (λ n. P (n, y)) (omega arith) (h (suc i) y e)))
 

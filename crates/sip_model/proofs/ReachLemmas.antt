@@ -42,11 +42,13 @@ named-self b = go b.class refl
     go Served e = rw e (eq-eqb b.block b.block refl)
 
 -- the oldest of some candidates is one of them
-oldest-among : (c : Candidate) (cs : List Candidate) → list_any (λ (d : Candidate). same_named d.block (older_of c (oldest cs)).block) (c ∷ cs) ≡ true
+oldest-among : (c : Candidate) (cs : List Candidate)
+    → list_any (λ (d : Candidate). same_named d.block (older_of c (oldest cs)).block) (c ∷ cs) ≡ true
 oldest-among c [] = rw (named-self c.block) refl
 oldest-among c (d ∷ ds) = go (nat_lt (older_of d (oldest ds)).used c.used) refl (oldest-among d ds)
   where
-    go : (b : Bool) → nat_lt (older_of d (oldest ds)).used c.used ≡ b → list_any (λ (e : Candidate). same_named e.block (older_of d (oldest ds)).block) (d ∷ ds) ≡ true
+    go : (b : Bool) → nat_lt (older_of d (oldest ds)).used c.used ≡ b
+        → list_any (λ (e : Candidate). same_named e.block (older_of d (oldest ds)).block) (d ∷ ds) ≡ true
         → list_any (λ (e : Candidate). same_named e.block (older_of c (oldest (d ∷ ds))).block) (c ∷ d ∷ ds) ≡ true
     go true e r =
         let q : older_of c (oldest (d ∷ ds)) ≡ older_of d (oldest ds) = rw e refl in
@@ -62,7 +64,8 @@ plain-permitted [] = refl
 plain-permitted (c ∷ cs) = oldest-among c cs
 
 -- an entry with the plain drop is one with a permitted drop
-takes-permitted : (g : Setting) (o : Options) (s : Machine) (choice : ℕ) (c : Choice) (dropped : Option Named) → Takes (IsPlain g o) g o s choice c dropped
+takes-permitted : (g : Setting) (o : Options) (s : Machine) (choice : ℕ) (c : Choice) (dropped : Option Named)
+    → Takes (IsPlain g o) g o s choice c dropped
     → Takes (Permits g o) g o s choice c dropped
 takes-permitted g o s choice c dropped t = record {
   taken_by = t.taken_by;
@@ -72,7 +75,8 @@ takes-permitted g o s choice c dropped t = record {
 -- a plain run is legal
 pub plain-runs-are-legal : PlainRunsAreLegal
 plain-runs-are-legal g o choices _ _ _ begins = begins
-plain-runs-are-legal g o choices _ _ _ (goes {s = s} c dropped t run takes e) = goes c dropped t (plain-runs-are-legal g o choices _ _ _ run) (takes-permitted g o s _ c dropped takes) e
+plain-runs-are-legal g o choices _ _ _ (goes {s = s} c dropped t run takes e) =
+    goes c dropped t (plain-runs-are-legal g o choices _ _ _ run) (takes-permitted g o s _ c dropped takes) e
 plain-runs-are-legal g o choices _ _ _ (traps {s = s} c dropped trap worker run takes e) =
     traps c dropped trap worker (plain-runs-are-legal g o choices _ _ _ run) (takes-permitted g o s _ c dropped takes) e
 plain-runs-are-legal g o choices _ _ _ (conflicts {s = s} c dropped found run takes e) =

@@ -120,8 +120,10 @@ fetching o x line operands None = Idle
 fetching o x line operands (Some block) = if_room (has_room o x operands) (Fetch block line)
 
 -- a statement with shared operands: done where all are cached, and else the first that is neither cached nor awaited is asked for
-abbrev pub with_operands : Setting → Options → Worker → (line : ℕ) → Plain → (more : Rest) → (operands : List Named) → (ready : Bool) → Action
-with_operands g o x line form more operands true = local_led (all_used operands x) line more (closed.local_step g form (map (cached_words x) operands) x.own x.partials)
+abbrev pub with_operands : Setting → Options → Worker → (line : ℕ) → Plain → (more : Rest) → (operands : List Named) → (ready : Bool)
+    → Action
+with_operands g o x line form more operands true =
+    local_led (all_used operands x) line more (closed.local_step g form (map (cached_words x) operands) x.own x.partials)
 with_operands g o x line form more operands false = fetching o x line operands (find (is_absent x) operands)
 
 -- `get` and `request`; only a cached block is used by it
@@ -136,7 +138,8 @@ free_put puts = unwrap_or (find (λ n. not (list_any (λ (p : Posted). p.put == 
 
 -- a worker behind a put
 abbrev pub behind_put : Worker → (more : Rest) → Class → Worker
-behind_put x more class = record x { rest = more; ordinal = x.ordinal + 1; puts = x.puts ++ record { put = free_put x.puts; class = class } ∷ [] }
+behind_put x more class =
+    record x { rest = more; ordinal = x.ordinal + 1; puts = x.puts ++ record { put = free_put x.puts; class = class } ∷ [] }
 
 -- `put` and `prepare`, where not all puts are under way; a missing source traps at once
 abbrev pub putting : Worker → (line : ℕ) → (more : Rest) → (block : Named) → Access → (may : Bool) → Answer (List ℕ) → Action
@@ -159,8 +162,10 @@ abbrev pub asking : Setting → Options → Worker → (line : ℕ) → Plain �
 asking g o x line form more next.Local = local_led x line more (closed.local_step g form [] x.own x.partials)
 asking g o x line form more (next.Operands blocks) =
     with_operands g o x line form more (map (named g x.own) blocks) (list_all (is_cached x) (map (named g x.own) blocks))
-asking g o x line form more (next.Get block) = getting o x line more (named g x.own block) (is_cached x (named g x.own block)) (is_awaited x (named g x.own block))
-asking g o x line form more (next.Put block how from) = putting x line more (named g x.own block) how (nat_lt (length x.puts) o.puts) (words_of g x.own from [])
+asking g o x line form more (next.Get block) =
+    getting o x line more (named g x.own block) (is_cached x (named g x.own block)) (is_awaited x (named g x.own block))
+asking g o x line form more (next.Put block how from) =
+    putting x line more (named g x.own block) how (nat_lt (length x.puts) o.puts) (words_of g x.own from [])
 asking g o x line form more (next.Sync class) = arriving class form (is_transferring x class)
 asking g o x line form more (next.Collect into from) = Contribute (slice_index_or x.partials from 0)
 

@@ -1,6 +1,5 @@
 -- What a delivery does: at the owner of a block, at the master, and at a worker.
 use Rattle.std.specs.Prelude.{ℕ, List, [], ◌∷◌, map, Bool, true, false, slice_set, Option, Some, None, option_map}
-use Rattle.sial_syntax.specs.declared.access.Access.TheVariants.{Read}
 use Rattle.sial_syntax.specs.declared.access.Class.{Class}
 use Rattle.sial_syntax.specs.declared.access.Class.TheVariants.{Distributed, Served}
 use Rattle.sial_syntax.specs.Boxes.{numbers_from, volume}
@@ -18,7 +17,7 @@ use Rattle.sip_model.specs.Flight.{Flying, master_actor, carrying, bare}
 use Rattle.sip_model.specs.Hearing.{replied, acknowledged, given_while, released_while, totalled_while, deleted_while}
 use Rattle.sip_model.specs.Machines.{Machine, worker_at, with_worker, serving_at, with_serving, posting}
 use Rattle.sip_model.specs.Masters.{Master, Answered, answered, with_arrival, is_met, after_meeting, sum_of_shares}
-use Rattle.sip_model.specs.Owners.{Accessing, cell_at, clash_at, accessed_at, taken_away_if}
+use Rattle.sip_model.specs.Owners.{Accessing, reading, writing, cell_at, clash_at, accessed_at, taken_away_if}
 use Rattle.sip_model.specs.Placement.{server_of}
 use Rattle.sip_model.specs.Servers.{kept_at, served_words, evicted, after_access}
 use Rattle.sip_model.specs.Workers.{Worker}
@@ -36,7 +35,9 @@ number_dropped dropped = option_map (λ (b : Named). b.block) dropped
 -- an access to a distributed block that stands, with the answer made of the block's elements before it
 abbrev pub at_home : Machine → (block : ℕ) → Accessing → (List ℕ → Flying) → Machine
 at_home s block access answer =
-    posting (answer (cell_at s.homed block).words ∷ []) (record s { homed = slice_set s.homed block (accessed_at (cell_at s.homed block) access) })
+    posting
+    (answer (cell_at s.homed block).words ∷ [])
+    (record s { homed = slice_set s.homed block (accessed_at (cell_at s.homed block) access) })
 
 -- an access to a served block that stands, behind an eviction where a block is named
 abbrev pub at_server : Options → Machine → (block : ℕ) → Accessing → (evicts : Option ℕ) → (List ℕ → Flying) → Machine
@@ -52,8 +53,10 @@ unless_clash class block epoch (Some clash) s = Conflict (record { class = class
 
 -- an access delivered to the owner of its block
 abbrev pub accessed_by : Options → Machine → Class → (block : ℕ) → Accessing → (evicts : Option ℕ) → (List ℕ → Flying) → Performed
-accessed_by o s Distributed block access evicts answer = unless_clash Distributed block access.epoch (clash_at (cell_at s.homed block) access) (at_home s block access answer)
-accessed_by o s Served block access evicts answer = unless_clash Served block access.epoch (clash_at (cell_at s.stored block) access) (at_server o s block access evicts answer)
+accessed_by o s Distributed block access evicts answer =
+    unless_clash Distributed block access.epoch (clash_at (cell_at s.homed block) access) (at_home s block access answer)
+accessed_by o s Served block access evicts answer =
+    unless_clash Served block access.epoch (clash_at (cell_at s.stored block) access) (at_server o s block access evicts answer)
 
 -- how many numbers the box of the pardo has at whose end the work stands
 abbrev pub box_at : Setting → Rest → ℕ
@@ -99,10 +102,11 @@ released_by g o s worker x = record s {
 -- what the delivery of a message does to the machine out of which it was taken, with a block evicted where one is named
 abbrev pub delivered : Setting → Options → Machine → (evicts : Option ℕ) → (from to : ℕ) → (words : List ℕ) → Body → Performed
 delivered g o s evicts from to words (body.Request class block epoch line) =
-    accessed_by o s class block (record { epoch = epoch; kind = Read; line = line; words = [] }) evicts (carrying to from (body.Reply class block))
+    accessed_by o s class block (reading epoch line) evicts (carrying to from (body.Reply class block))
 delivered g o s evicts from to words (body.Put class block epoch line how put origin) =
-    accessed_by o s class block (record { epoch = epoch; kind = how; line = line; words = words }) evicts (λ old. bare to from (body.Ack put))
-delivered g o s evicts from to words (body.Reply class block) = Moved (heard_by g s to (replied (record { class = class; block = block }) words))
+    accessed_by o s class block (writing epoch how line words) evicts (λ old. bare to from (body.Ack put))
+delivered g o s evicts from to words (body.Reply class block) =
+    Moved (heard_by g s to (replied (record { class = class; block = block }) words))
 delivered g o s evicts from to words (body.Ack put) = Moved (heard_by g s to (acknowledged put))
 delivered g o s evicts from to words (body.Ask instance place) =
     Moved (with_answer from (answered o.workers from instance place (box_at g (worker_at g s from).rest) s.master) s)

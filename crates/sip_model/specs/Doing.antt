@@ -65,4 +65,5 @@ acted o worker x dropped (Arrive class creates) =
     record (with_post (at_sync class x) (bare worker master_actor (body.Arrive x.passed.syncs (place x.rest)))) { makes = creates }
 acted o worker x dropped (Contribute value) =
     with_post (record x { waits = ForTotal }) (bare worker master_actor (body.Contribute x.passed.syncs (place x.rest) value))
-acted o worker x dropped Ask = with_post (record x { waits = ForGive }) (bare worker master_actor (body.Ask x.passed.instances (place x.rest)))
+acted o worker x dropped Ask =
+    with_post (record x { waits = ForGive }) (bare worker master_actor (body.Ask x.passed.instances (place x.rest)))

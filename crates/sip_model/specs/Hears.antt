@@ -52,16 +52,20 @@ comes g test _ = false
 pub data Hears (g : Setting) (x : Worker) : Body → (words : List ℕ) → Worker → Type 0 where
   hears_reply : (class : Class) (block : ℕ) (words : List ℕ) → is_awaited x (record { class = class; block = block }) ≡ true
       → Hears g x (body.Reply class block) words (came (record { class = class; block = block }) words x)
-  hears_unasked : (class : Class) (block : ℕ) (words : List ℕ) → is_awaited x (record { class = class; block = block }) ≡ false → Hears g x (body.Reply class block) words x
+  hears_unasked : (class : Class) (block : ℕ) (words : List ℕ) → is_awaited x (record { class = class; block = block }) ≡ false
+      → Hears g x (body.Reply class block) words x
   hears_ack : (put : ℕ) (words : List ℕ) → Hears g x (body.Ack put) words (acknowledged put x)
   hears_give : (given : Given) (words : List ℕ) → x.waits ≡ ForGive → Hears g x (body.Give given) words (given_to given x)
   hears_ungiven : (given : Given) (words : List ℕ) → is_for_give x.waits ≡ false → Hears g x (body.Give given) words x
   hears_total : (sync sum : ℕ) (words : List ℕ) (line : ℕ) (form : Plain) (more : Rest) (into from : ℕ) → x.waits ≡ ForTotal
-      → next_of x.rest ≡ next.Statement line form more → asked g form ≡ next.Collect into from → Hears g x (body.Total sync sum) words (past_collect into from sum more x)
-  hears_untotalled : (sync sum : ℕ) (words : List ℕ) → (is_for_total x.waits && comes g is_collect (next_of x.rest)) ≡ false → Hears g x (body.Total sync sum) words x
+      → next_of x.rest ≡ next.Statement line form more → asked g form ≡ next.Collect into from
+      → Hears g x (body.Total sync sum) words (past_collect into from sum more x)
+  hears_untotalled : (sync sum : ℕ) (words : List ℕ) → (is_for_total x.waits && comes g is_collect (next_of x.rest)) ≡ false
+      → Hears g x (body.Total sync sum) words x
 
 -- what a Release may make of a worker, and the array whose blocks it takes away
 pub data Released (g : Setting) (x : Worker) : Worker → Option ℕ → Type 0 where
-  released : (line : ℕ) (form : Plain) (more : Rest) (class : Class) → x.waits ≡ ForRelease → next_of x.rest ≡ next.Statement line form more → asked g form ≡ next.Sync class
+  released : (line : ℕ) (form : Plain) (more : Rest) (class : Class) → x.waits ≡ ForRelease
+      → next_of x.rest ≡ next.Statement line form more → asked g form ≡ next.Sync class
       → Released g x (past_sync class form more x) (deletes form)
   unreleased : (is_for_release x.waits && comes g is_sync (next_of x.rest)) ≡ false → Released g x x None

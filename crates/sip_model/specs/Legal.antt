@@ -49,7 +49,9 @@ abbrev pub Allowing : Type 1
 Allowing = Machine → Choice → Option Named → Type 0
 
 -- an entry at hand: enabled, taken by the choice, with a drop that is allowed
-pub record Takes (allows : Allowing) (g : Setting) (o : Options) (s : Machine) (choice : ℕ) (c : Choice) (dropped : Option Named) : Type 0 where
+pub record Takes
+    (allows : Allowing) (g : Setting) (o : Options) (s : Machine) (choice : ℕ) (c : Choice) (dropped : Option Named)
+    : Type 0 where
   pub taken_by : taken choice (enabled g o s) ≡ Some c
   pub allowed : allows s c dropped
 
@@ -57,16 +59,21 @@ pub record Takes (allows : Allowing) (g : Setting) (o : Options) (s : Machine) (
 pub data RunBy (allows : Allowing) (g : Setting) (o : Options) (choices : ℕ → ℕ) : List Entry → Machine → Standing → Type 0 where
   begins : RunBy allows g o choices [] (start_machine g o) Open
   goes : {entries : List Entry} {s : Machine} (c : Choice) (dropped : Option Named) (t : Machine)
-      → RunBy allows g o choices entries s Open → Takes allows g o s (choices (length entries)) c dropped → perform g o s c dropped ≡ Moved t
+      → RunBy allows g o choices entries s Open → Takes allows g o s (choices (length entries)) c dropped
+      → perform g o s c dropped ≡ Moved t
       → RunBy allows g o choices (entries ++ recorded g o s (choices (length entries)) c dropped ∷ []) t Open
   traps : {entries : List Entry} {s : Machine} (c : Choice) (dropped : Option Named) (trap : Trap) (worker : ℕ)
-      → RunBy allows g o choices entries s Open → Takes allows g o s (choices (length entries)) c dropped → perform g o s c dropped ≡ Trapped trap worker
+      → RunBy allows g o choices entries s Open → Takes allows g o s (choices (length entries)) c dropped
+      → perform g o s c dropped ≡ Trapped trap worker
       → RunBy allows g o choices (entries ++ recorded g o s (choices (length entries)) c dropped ∷ []) s (InTrap trap worker)
   conflicts : {entries : List Entry} {s : Machine} (c : Choice) (dropped : Option Named) (found : Found)
-      → RunBy allows g o choices entries s Open → Takes allows g o s (choices (length entries)) c dropped → perform g o s c dropped ≡ Conflict found
+      → RunBy allows g o choices entries s Open → Takes allows g o s (choices (length entries)) c dropped
+      → perform g o s c dropped ≡ Conflict found
       → RunBy allows g o choices (entries ++ recorded g o s (choices (length entries)) c dropped ∷ []) s (InConflict found)
-  ends : {entries : List Entry} {s : Machine} → RunBy allows g o choices entries s Open → enabled g o s ≡ [] → all_over g o s ≡ true → RunBy allows g o choices entries s AllDone
-  stops : {entries : List Entry} {s : Machine} → RunBy allows g o choices entries s Open → enabled g o s ≡ [] → all_over g o s ≡ false → RunBy allows g o choices entries s Stuck
+  ends : {entries : List Entry} {s : Machine} → RunBy allows g o choices entries s Open → enabled g o s ≡ [] → all_over g o s ≡ true
+      → RunBy allows g o choices entries s AllDone
+  stops : {entries : List Entry} {s : Machine} → RunBy allows g o choices entries s Open → enabled g o s ≡ [] → all_over g o s ≡ false
+      → RunBy allows g o choices entries s Stuck
 
 -- a legal run
 abbrev pub Legal : (g : Setting) (o : Options) (choices : ℕ → ℕ) → List Entry → Machine → Standing → Type 0

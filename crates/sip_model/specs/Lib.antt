@@ -19,6 +19,7 @@ pub mod SizeClasses
 pub mod Moments
 pub mod Slots
 pub mod StepBound
+pub mod CountsOf
 pub mod Acts
 pub mod Hears
 pub mod Steps

@@ -38,7 +38,9 @@ instance_at m number = slice_index_or m.instances number unopened
 -- instances with one replaced or added
 abbrev pub with_instance : (number : ℕ) → Instance → List Instance → List Instance
 with_instance number i instances =
-    if nat_lt number (length instances) then slice_set instances number i else instances ++ (replicate (number - length instances) unopened ++ i ∷ [])
+    if nat_lt number (length instances)
+    then slice_set instances number i
+    else instances ++ (replicate (number - length instances) unopened ++ i ∷ [])
 
 -- whether all workers were told that no number of an instance is left
 abbrev pub is_finished : (workers : ℕ) → Instance → Bool
@@ -65,15 +67,23 @@ may_ask workers m instance place = nat_lt instance (base workers m + window) && 
 abbrev pub chunk_of : (workers remaining : ℕ) → ℕ
 chunk_of workers remaining = max 1 (remaining / (2 * workers))
 
+-- an instance after numbers of it were given at a place
+abbrev pub chunk_taken : (place count : ℕ) → Instance → Instance
+chunk_taken place count i = record i { place = Some place; next = i.next + count }
+
+-- an instance after a worker was told at a place that none is left
+abbrev pub none_told : (place worker : ℕ) → Instance → Instance
+none_told place worker i = record i { place = Some place; told = i.told ++ worker ∷ [] }
+
 -- the master after a chunk was given
 abbrev pub after_chunk : (number place count : ℕ) → Master → Master
 after_chunk number place count m =
-    record m { instances = with_instance number (record (instance_at m number) { place = Some place; next = (instance_at m number).next + count }) m.instances }
+    record m { instances = with_instance number (chunk_taken place count (instance_at m number)) m.instances }
 
 -- the master after a worker was told that none is left
 abbrev pub after_none : (worker number place : ℕ) → Master → Master
 after_none worker number place m =
-    record m { instances = with_instance number (record (instance_at m number) { place = Some place; told = (instance_at m number).told ++ worker ∷ [] }) m.instances }
+    record m { instances = with_instance number (none_told place worker (instance_at m number)) m.instances }
 
 -- the master's answer to an Ask, with the master after it
 pub record Answered : Type 0 where
@@ -82,7 +92,8 @@ pub record Answered : Type 0 where
 
 -- so many numbers of an instance given
 abbrev pub chunk_given : (number place count : ℕ) → Master → Answered
-chunk_given number place count m = record { master = after_chunk number place count m; given = given.Chunk (instance_at m number).next count }
+chunk_given number place count m =
+    record { master = after_chunk number place count m; given = given.Chunk (instance_at m number).next count }
 
 -- word that none is left
 abbrev pub none_given : (worker number place : ℕ) → Master → Answered

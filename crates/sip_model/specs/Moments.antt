@@ -31,7 +31,9 @@ body_creates g array procedure = list_any (λ (v : Visit). is_create array v.for
 -- whether a procedure, or one that it reaches by calls, creates an array
 abbrev pub call_creates : Setting → (procedure array : ℕ) → Bool
 call_creates g procedure array =
-    list_any (λ q. reaches g.program (length g.program.procedures) procedure q && body_creates g array q) (numbers_from 0 (length g.program.procedures))
+    list_any
+    (λ q. reaches g.program (length g.program.procedures) procedure q && body_creates g array q)
+    (numbers_from 0 (length g.program.procedures))
 
 -- the arrays that a call may create
 abbrev pub created_by_call : Setting → (procedure : ℕ) → ArraySet

@@ -23,6 +23,14 @@ pub record Accessing : Type 0 where
   pub line : ℕ
   pub words : List ℕ
 
+-- a read
+abbrev pub reading : (epoch line : ℕ) → Accessing
+reading epoch line = record { epoch = epoch; kind = Read; line = line; words = [] }
+
+-- a write of this kind
+abbrev pub writing : (epoch : ℕ) → Access → (line : ℕ) → (words : List ℕ) → Accessing
+writing epoch how line words = record { epoch = epoch; kind = how; line = line; words = words }
+
 -- no block and no mark
 abbrev pub no_cell : Cell
 no_cell = record { words = []; mark = None }
@@ -64,7 +72,8 @@ refilled test words e = if test e.0 then record e.1 { words = words e.0 } else e
 
 -- the blocks of an array that live at a worker made zeros
 abbrev pub made : Setting → Options → (worker array : ℕ) → List Cell → List Cell
-made g o worker array cells = map (refilled (is_homed g o worker array) (λ k. zeros g array (k - first_of_class g array))) (enumerate_from 0 cells)
+made g o worker array cells =
+    map (refilled (is_homed g o worker array) (λ k. zeros g array (k - first_of_class g array))) (enumerate_from 0 cells)
 
 -- the blocks of an array that live at a worker taken away
 abbrev pub taken_away : Setting → Options → (worker array : ℕ) → List Cell → List Cell

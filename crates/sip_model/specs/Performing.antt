@@ -60,7 +60,8 @@ server_candidates server = map (λ (k : Kept). record { block = record { class =
 
 -- the blocks that may be evicted for an access that stands
 abbrev pub evicted_for : Options → Machine → (block : ℕ) → Option Clash → List Candidate
-evicted_for o s block None = if must_evict o (server_at s (server_of o block)) block then server_candidates (server_at s (server_of o block)) else []
+evicted_for o s block None =
+    if must_evict o (server_at s (server_of o block)) block then server_candidates (server_at s (server_of o block)) else []
 evicted_for o s block (Some clash) = []
 
 -- the blocks that may be evicted for an access to a block of this class
@@ -133,7 +134,8 @@ performed_by g o s worker dropped action = Moved (acted_in g o s worker (acted o
 -- the message at a place delivered, where there is one
 abbrev pub delivered_at : Setting → Options → Machine → (place : ℕ) → Option Named → Option Flying → Performed
 delivered_at g o s place dropped None = Moved s
-delivered_at g o s place dropped (Some f) = delivered g o (taking_out place s) (number_dropped dropped) f.message.from f.message.to f.words f.message.body
+delivered_at g o s place dropped (Some f) =
+    delivered g o (taking_out place s) (number_dropped dropped) f.message.from f.message.to f.words f.message.body
 
 -- an entry performed, with a block dropped where one is named
 unfoldable pub perform : Setting → Options → Machine → Choice → Option Named → Performed

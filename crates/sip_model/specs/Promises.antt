@@ -1,5 +1,5 @@
 -- What the machine promises of all its runs. Each is a named statement; one that no public function ensures is claimed nowhere.
-use Rattle.std.specs.Prelude.{◌≡◌, ◌≢◌, ℕ, ◌+◌, ◌^◌, ◌≤◌, ◌<◌, List, [], length, count_by, false, ◌⊎◌, Option, Some, None}
+use Rattle.std.specs.Prelude.{◌≡◌, ◌≢◌, ℕ, ◌+◌, ◌≤◌, ◌<◌, List, [], length, count_by, false, ◌⊎◌, Option, Some, None}
 use Rattle.std.specs.List.{Contains}
 use Rattle.sial_syntax.specs.declared.access.Class.{Class}
 use Rattle.sial_syntax.specs.declared.access.Class.TheVariants.{Distributed}
@@ -18,6 +18,7 @@ use Rattle.sip_model.specs.declared.entry.Entry.{Entry}
 use Rattle.sip_model.specs.declared.message.Body.{Body}
 use Rattle.sip_model.specs.declared.message.Body.TheVariants as body
 use Rattle.sip_model.specs.declared.options.Options.{Options}
+use Rattle.sip_model.specs.CountsOf.{most_steps}
 use Rattle.sip_model.specs.Flight.{Flying}
 use Rattle.sip_model.specs.Legal as run
 use Rattle.sip_model.specs.Legal.{Standing, Open, AllDone, Stuck, InTrap, InConflict, Legal}
@@ -44,11 +45,13 @@ pub record IsWithin (o : Options) : Type 0 where
   pub server_cache : o.server_cache ≤ 64
   pub place : length o.place ≤ 65536
 
--- a fact of every legal run, with its entries, its last state and how it stands: of each sound setting, accepted or not, all options within the limits, all choices, plain or not
+-- a fact of every legal run, with its entries, its last state and how it stands: of each sound setting, accepted or not, all options
+-- within the limits, all choices, plain or not
 abbrev pub OfRuns : (Setting → Options → List Entry → Machine → Standing → Type 0) → Type 0
 OfRuns fact =
     (g : Setting) (o : Options) → IsSound g → IsWithin o
-    → (choices : ℕ → ℕ) (entries : List Entry) (s : Machine) (standing : Standing) → Legal g o choices entries s standing → fact g o entries s standing
+    → (choices : ℕ → ℕ) (entries : List Entry) (s : Machine) (standing : Standing) → Legal g o choices entries s standing
+    → fact g o entries s standing
 
 -- a fact of every state that a legal run comes to
 abbrev pub OfStates : (Setting → Options → Machine → Type 0) → Type 0
@@ -58,7 +61,8 @@ OfStates fact = OfRuns (λ g o entries s standing. fact g o s)
 abbrev pub syncs : Setting → Machine → (worker : ℕ) → ℕ
 syncs g s worker = (worker_at g s worker).passed.syncs
 
--- two workers in lockstep: where both passed as many sync points they have the same epochs and created flags, and neither passed two more than the other
+-- two workers in lockstep: where both passed as many sync points they have the same epochs and created flags, and neither passed two
+-- more than the other
 pub record InLockstep (g : Setting) (s : Machine) (v w : ℕ) : Type 0 where
   pub epochs : syncs g s v ≡ syncs g s w → (worker_at g s v).epochs ≡ (worker_at g s w).epochs
   pub created : syncs g s v ≡ syncs g s w → (worker_at g s v).own.created ≡ (worker_at g s w).own.created
@@ -70,9 +74,12 @@ Lockstep = OfStates (λ g o s. (v w : ℕ) → v < o.workers → w < o.workers �
 
 -- no message of a class that a worker asked for is in flight
 abbrev pub IsQuiet : Setting → Machine → (worker : ℕ) → Class → Type 0
-IsQuiet g s worker class = (f : Flying) → Contains s.flight f → is_transfer_of worker (worker_at g s worker) class f.message.from f.message.to f.message.body ≡ false
+IsQuiet g s worker class =
+    (f : Flying) → Contains s.flight f
+    → is_transfer_of worker (worker_at g s worker) class f.message.from f.message.to f.message.body ≡ false
 
--- quiet class at a barrier: a worker that waits for the Release of a sync point that ends a class's epoch has no message of that class in flight
+-- quiet class at a barrier: a worker that waits for the Release of a sync point that ends a class's epoch has no message of that class
+-- in flight
 abbrev pub QuietAtBarriers : Type 0
 QuietAtBarriers = OfStates (λ g o s.
     (w line : ℕ) (form : Plain) (more : Rest) (class : Class) → w < o.workers → (worker_at g s w).waits ≡ ForRelease
@@ -149,7 +156,8 @@ HasPlainRun g o choices count =
 pub record OnePlainRun : Type 0 where
   pub some : (g : Setting) (o : Options) (choices : ℕ → ℕ) (count : ℕ) → HasPlainRun g o choices count
   pub one : (g : Setting) (o : Options) (choices : ℕ → ℕ) (entries other : List Entry) (s t : Machine) (standing ending : Standing)
-      → run.Plain g o choices entries s standing → run.Plain g o choices other t ending → length entries ≡ length other → IsOneRun entries other s t standing ending
+      → run.Plain g o choices entries s standing → run.Plain g o choices other t ending → length entries ≡ length other
+      → IsOneRun entries other s t standing ending
 
 -- lines and result are those of the outcome of the sequential meaning
 abbrev pub IsResultOf : Setting → Options → Machine → Outcome → Type 0
@@ -174,11 +182,12 @@ NeverStuck = OfRuns (λ g o entries s standing. Accepts g → standing ≢ Stuck
 
 -- pools suffice: a worker holds no more than its slots of each size class, and of the widest one less, which is left for a right side
 abbrev pub PoolsSuffice : Type 0
-PoolsSuffice = OfStates (λ g o s. (w class : ℕ) → w < o.workers → held g o w class s + at_class class (widest_class g) 1 ≤ slots_of g o w class)
+PoolsSuffice =
+    OfStates (λ g o s. (w class : ℕ) → w < o.workers → held g o w class s + at_class class (widest_class g) 1 ≤ slots_of g o w class)
 
 -- ending: a run has no more entries than the bound, where that is within its limit
 abbrev pub Ending : Type 0
-Ending = OfRuns (λ g o entries s standing. step_bound g o.workers ≤ 2 ^ 62 → length entries ≤ step_bound g o.workers)
+Ending = OfRuns (λ g o entries s standing. step_bound g o.workers ≤ most_steps → length entries ≤ step_bound g o.workers)
 
 -- the rule is tight: only an accepted program has a run that is done
 abbrev pub OnlyAcceptedEndWell : Type 0

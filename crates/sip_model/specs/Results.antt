@@ -105,8 +105,11 @@ result_blocks g r array created Served = blocks_from g array r.served
 
 -- the lines of an array
 abbrev pub array_text : Setting → Result → (array : ℕ) → List ℕ
-array_text g r array = flat_map (block_text g array) (enumerate_from 0 (result_blocks g r array (slice_index_or r.created array false) (array_kind g array)))
+array_text g r array =
+    flat_map (block_text g array) (enumerate_from 0 (result_blocks g r array (slice_index_or r.created array false) (array_kind g array)))
 
 -- the text of a result: scalars that aren't private, then static, distributed and served arrays, both in order of declaration
 abbrev pub result_text : Setting → Result → List ℕ
-result_text g r = flat_map (λ (e : ℕ × Option ℕ). scalar_text g e.0 e.1) (enumerate_from 0 r.scalars) ++ flat_map (array_text g r) (numbers_from 0 (length g.program.arrays))
+result_text g r =
+    flat_map (λ (e : ℕ × Option ℕ). scalar_text g e.0 e.1) (enumerate_from 0 r.scalars)
+    ++ flat_map (array_text g r) (numbers_from 0 (length g.program.arrays))

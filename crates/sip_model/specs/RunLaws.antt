@@ -1,5 +1,5 @@
 -- Laws that lead from the functions to the relations, and from plain runs to legal ones.
-use Rattle.std.specs.Prelude.{◌≡◌, ℕ, List, Option, Some}
+use Rattle.std.specs.Prelude.{◌≡◌, ℕ, List, length, Option, Some}
 use Rattle.sial_meaning.specs.Setting.{Setting}
 use Rattle.sial_meaning.specs.Statement.{Named}
 use Rattle.sip_model.specs.declared.entry.Entry.{Entry}
@@ -8,7 +8,7 @@ use Rattle.sip_model.specs.Acting.{action}
 use Rattle.sip_model.specs.Acts.{ActsBy}
 use Rattle.sip_model.specs.Enabled.{Choice, enabled, taken}
 use Rattle.sip_model.specs.Legal as run
-use Rattle.sip_model.specs.Legal.{Standing, Legal}
+use Rattle.sip_model.specs.Legal.{Standing, Legal, Course, plain_run}
 use Rattle.sip_model.specs.Machines.{Machine}
 use Rattle.sip_model.specs.Performing.{Permits, perform}
 use Rattle.sip_model.specs.Steps.{Reach, Leads}
@@ -26,10 +26,23 @@ EntriesAreSteps =
 
 -- the state of a legal run is one that entries lead to
 abbrev pub RunsReach : Type 0
-RunsReach = (g : Setting) (o : Options) (choices : ℕ → ℕ) (entries : List Entry) (s : Machine) (standing : Standing) → Legal g o choices entries s standing → Reach g o s
+RunsReach =
+    (g : Setting) (o : Options) (choices : ℕ → ℕ) (entries : List Entry) (s : Machine) (standing : Standing)
+    → Legal g o choices entries s standing → Reach g o s
 
 -- a plain run is legal
 abbrev pub PlainRunsAreLegal : Type 0
 PlainRunsAreLegal =
     (g : Setting) (o : Options) (choices : ℕ → ℕ) (entries : List Entry) (s : Machine) (standing : Standing)
     → run.Plain g o choices entries s standing → Legal g o choices entries s standing
+
+-- a plain run has the entries and the state of the computed run of as many entries
+pub record IsComputed (g : Setting) (o : Options) (choices : ℕ → ℕ) (entries : List Entry) (s : Machine) : Type 0 where
+  pub entries_are : entries ≡ (plain_run g o choices (length entries)).entries
+  pub state_is : s ≡ (plain_run g o choices (length entries)).state
+
+-- each plain run is computed
+abbrev pub PlainRunsAreComputed : Type 0
+PlainRunsAreComputed =
+    (g : Setting) (o : Options) (choices : ℕ → ℕ) (entries : List Entry) (s : Machine) (standing : Standing)
+    → run.Plain g o choices entries s standing → IsComputed g o choices entries s

@@ -70,7 +70,8 @@ stays_written Store written = false
 
 -- a block brought into the cache by an access
 abbrev pub brought : Accessing → (block : ℕ) → (old : List ℕ) → (number : ℕ) → Kept
-brought access block old number = record { block = block; words = words_after access.kind old access.words; written = stays_written access.kind true; used = number }
+brought access block old number =
+    record { block = block; words = words_after access.kind old access.words; written = stays_written access.kind true; used = number }
 
 -- a cached block used once more
 abbrev pub used_again : Accessing → (block number : ℕ) → Kept → Kept

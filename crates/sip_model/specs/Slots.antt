@@ -50,7 +50,8 @@ peak g o worker class = most_of (map (homed_of g o worker class) (moments g))
 abbrev pub at_class : (class this number : ℕ) → ℕ
 at_class class this number = if class == this then number else 0
 
--- the slots of a size class at a worker: static blocks, homed ones, temps, local blocks, the cache's places and the puts, and one for a right side
+-- the slots of a size class at a worker: static blocks, homed ones, temps, local blocks, the cache's places and the puts, and one for a
+-- right side
 abbrev pub slots_of : Setting → Options → (worker class : ℕ) → ℕ
 slots_of g o worker class =
     blocks_sized g Static class
@@ -103,7 +104,8 @@ is_homed_sized g o worker class block =
 abbrev pub is_present : Cell → Bool
 is_present cell = is_filled cell.words
 
--- how many slots of a size class a worker holds: static blocks, present homed blocks, blocks of temps, allocated local blocks, and in the shared class cached and awaited blocks and puts
+-- how many slots of a size class a worker holds: static blocks, present homed blocks, blocks of temps, allocated local blocks, and in
+-- the shared class cached and awaited blocks and puts
 abbrev pub held : Setting → Options → (worker class : ℕ) → Machine → ℕ
 held g o worker class s =
     over_arrays g class (λ a. length (slice_index_or (worker_at g s worker).own.statics a []))

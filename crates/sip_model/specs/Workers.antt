@@ -130,4 +130,5 @@ without_class class cache = filter (λ (c : Cached). not (same_class c.block.cla
 
 -- whether a worker has a transfer of a class under way: an awaited block, or a put that isn't acknowledged
 abbrev pub is_transferring : Worker → Class → Bool
-is_transferring x class = list_any (λ (b : Named). same_class b.class class) x.awaited || list_any (λ (p : Posted). same_class p.class class) x.puts
+is_transferring x class =
+    list_any (λ (b : Named). same_class b.class class) x.awaited || list_any (λ (p : Posted). same_class p.class class) x.puts
