@@ -1,0 +1,4 @@
+pub mod BoundLemmas
+pub mod SegmentLemmas
+pub mod LaidLemmas
+pub mod BoxLemmas

@@ -1,0 +1,13 @@
+-- The spaces that an opening gives.
+use Rattle.std.specs.Prelude.{List, map}
+use Rattle.sial_syntax.specs.declared.array.ArrayDecl.{ArrayDecl}
+use Rattle.index_spaces.specs.declared.spaces.Kinds.{Kinds}
+use Rattle.index_spaces.specs.declared.span.Span.{Span}
+use Rattle.index_spaces.specs.Placed.{Placed, bare, spans_of}
+
+-- the segments, the spans and the arrays that were handed in
+abbrev pub placed : Kinds → List Span → List ArrayDecl → Placed
+placed kinds spans arrays = record {
+  spaces = record { ao = kinds.ao; mo = kinds.mo; moa = kinds.moa; mob = kinds.mob; spans = spans_of spans };
+  arrays = map bare arrays;
+}
