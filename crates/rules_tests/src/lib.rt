@@ -4,4 +4,6 @@
 #[cfg(test)]
 mod building;
 #[cfg(test)]
+mod segments;
+#[cfg(test)]
 mod shape_faults;
