@@ -1,0 +1,10 @@
+pub mod Numbers
+pub mod Bytes
+pub mod Rows
+pub mod Fields
+pub mod Entries
+pub mod Operands
+pub mod Heads
+pub mod Instructions
+pub mod Opcodes
+pub mod Reading

@@ -1,0 +1,9 @@
+//! Tables and their files, through public calls alone.
+#![tactic(auto)]
+
+#[cfg(test)]
+mod faults;
+#[cfg(test)]
+mod files;
+#[cfg(test)]
+mod small;
