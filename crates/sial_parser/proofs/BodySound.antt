@@ -6,7 +6,7 @@ use Rattle.sial_syntax.specs.Proper.{nesting, body_nesting}
 use Rattle.sial_syntax.specs.Tree.{Plain, block_of, DoIn, Pardo, If, IfElse, SipBarrier, ServerBarrier}
 use Rattle.sial_syntax.specs.declared.condition.Cond.{Cond}
 use Rattle.sial_parser.specs.Grammar.{at, ends_body, AreIndices, IsNamedEnd, IsListedEnd, IsCond, AreWheres, IsStatement, IsBody}
-use Rattle.sial_parser.specs.Parsing.{◌>>=◌, Read, line_of, index_by, indices, is_line_end, is_in, is_else, is_end_do, is_end_pardo, is_end_if, is_next, named_end, listed_end, wheres, condition, Statements, Inner, counted, deeper, loop_body, do_by, do_at, pardo_at, end_if, if_by, if_at, with_left, target_first, statement, statement_by, turns, body, call_at, get_at, request_at, put_at, prepare_at, create_at, delete_at, allocate_at, deallocate_at, collective_at, barrier_at, print_at, execute_at, assign_at}
+use Rattle.sial_parser.specs.Parsing.{◌>>=◌, Read, line_of, index_by, indices, is_line_end, is_in, is_else, is_end_do, is_end_pardo, is_end_if, is_next, named_end, listed_end, wheres, condition, Statements, Inner, counted, deeper, loop_body, do_by, do_at, pardo_at, end_if, if_by, if_at, with_left, target_first, statement, statement_by, turn_of, turns, body, call_at, get_at, request_at, put_at, prepare_at, create_at, delete_at, allocate_at, deallocate_at, collective_at, barrier_at, print_at, execute_at, assign_at}
 use Rattle.sial_parser.specs.Scope.{Scope, thing_of, IsIndex}
 use Rattle.sial_parser.specs.declared.fault.ParseFault.{ParseFault}
 use Rattle.sial_parser.specs.declared.keyword.Keyword.TheVariants as key
@@ -18,6 +18,7 @@ use Rattle.sial_parser.specs.declared.word.Word.{Word}
 use Rattle.sial_parser.proofs.EndsSound.{named_end_right, listed_end_right, wheres_right}
 use Rattle.sial_parser.proofs.OperandsSound.{Listed, index_after, indices_right, condition_right}
 use Rattle.sial_parser.proofs.Rights.{Right, right_then, right_map, Good, skip_then, skip_after, name_then, line_end_says, in_says, else_says, end_do_says, end_pardo_says, end_if_says, two_last}
+use Rattle.sial_parser.proofs.Shapes.{turn_shape}
 use Rattle.sial_parser.proofs.StatementsSound.{AsSimple, call_right, get_right, request_right, put_right, prepare_right, create_right, delete_right, allocate_right, deallocate_right, collective_right, sip_barrier_right, server_barrier_right, print_right, execute_right, assign_right}
 
 -- statements that were read: their words, how many there were, and how deep they nest
@@ -179,10 +180,12 @@ module _ (s : Scope) where
         (others (front ++ (w.line, x.0) ∷ []) x.1 mid))
 
     turns_right : (n : ℕ) (front : List (ℕ × Plain)) (left : ℕ) (ws : List Word) → Right (λ x rest. (forms : List (ℕ × Plain)) × (x.0 ≡ front ++ forms) × Bodied s depth left forms x.1 ws rest) (turns one n front left ws)
-    unfolding turns
+    unfolding turns turn_of
     turns_right zero front left ws = tt
     turns_right (suc n) front left [] = tt
-    turns_right (suc n) front left (w ∷ ws) = turn (ends_body w.symbol) n left front w ws refl (λ more left ws. turns_right n more left ws)
+    turns_right (suc n) front left (w ∷ ws) =
+        subst (Right (λ x rest. (forms : List (ℕ × Plain)) × (x.0 ≡ front ++ forms) × Bodied s depth left forms x.1 (w ∷ ws) rest)) (sym (turn_shape one n front left w ws))
+        (turn (ends_body w.symbol) n left front w ws refl (λ more left ws. turns_right n more left ws))
 
     all_turns : (n left : ℕ) (ws : List Word) → Right (AsBody s depth left ws) (turns one n [] left ws)
     all_turns n left ws = right_map (λ x rest. (forms : List (ℕ × Plain)) × (x.0 ≡ forms) × Bodied s depth left forms x.1 ws rest) (AsBody s depth left ws) (turns one n [] left ws) (λ x rest h. subst (λ (f : List (ℕ × Plain)). Bodied s depth left f x.1 ws rest) (sym h.1) h.2) (turns_right n [] left ws)

@@ -12,7 +12,7 @@ use Rattle.sial_syntax.specs.declared.index.Kind.{Kind}
 use Rattle.sial_syntax.specs.declared.index.Kind.TheVariants as kind
 use Rattle.sial_syntax.specs.declared.index.Range.TheVariants as range
 use Rattle.sial_parser.specs.Grammar.{at, sign_at, begins_declaration, AreDims, IsBound, IsKind, IsArrayKind, Declares, AreDeclarations}
-use Rattle.sial_parser.specs.Parsing.{◌>>=◌, Read, line_of, dims, is_line_end, is_comma, is_equals, is_of, is_some, new_name, new_by, bound_at, bound_by, segments_at, subindex_at, scalar_decl_at, array_decl_at, declaration, declaration_by, declarations}
+use Rattle.sial_parser.specs.Parsing.{◌>>=◌, Read, line_of, dims, is_line_end, is_comma, is_equals, is_of, is_some, new_name, new_by, bound_at, bound_by, segments_at, subindex_at, scalar_decl_at, array_decl_at, declaration, declaration_by, declared_one, declarations}
 use Rattle.sial_parser.specs.Scope.{Scope, thing_of, IsFree, Declared, with_index, with_array, with_scalar}
 use Rattle.sial_parser.specs.declared.fault.Counted.{Counted}
 use Rattle.sial_parser.specs.declared.fault.ParseFault.TheVariants.{TooMany}
@@ -25,6 +25,7 @@ use Rattle.sial_parser.specs.declared.word.Symbol.TheVariants.{Key, Name, Number
 use Rattle.sial_parser.specs.declared.word.Symbol.TheVariants as symbol
 use Rattle.sial_parser.specs.declared.word.Word.{Word}
 use Rattle.sial_parser.proofs.OperandsSound.{index_after, dims_right}
+use Rattle.sial_parser.proofs.Shapes.{declared_shape}
 use Rattle.sial_parser.proofs.Rights.{Right, right_then, right_map, skip_after, name_then, line_end_says, comma_says, equals_says, of_says}
 
 -- a new name at the front, of which there were so many
@@ -151,8 +152,13 @@ one_turn true n d w ws e others = right_then (λ e rest. Grown d e (w ∷ ws) re
     right_map (λ f rest. AllGrown e f mid rest) (λ f rest. AllGrown d f (w ∷ ws) rest) (declarations n e mid) (λ f rest h. record { are = AreDeclarations.more g.is h.are; few = λ few. h.few (g.few few) }) (others e mid))
 one_turn false n d w ws e others = record { are = AreDeclarations.none e; few = λ few. few }
 
+nothing_declared : (n : ℕ) (d : Declared) → Right (λ e rest. AllGrown d e [] rest) (declarations (suc n) d [])
+unfolding declarations declared_one
+nothing_declared n d = tt
+
 pub declarations_right : (n : ℕ) (d : Declared) (ws : List Word) → Right (λ e rest. AllGrown d e ws rest) (declarations n d ws)
 unfolding declarations
 declarations_right zero d ws = tt
-declarations_right (suc n) d [] = tt
-declarations_right (suc n) d (w ∷ ws) = one_turn (begins_declaration w.symbol) n d w ws refl (λ e ws. declarations_right n e ws)
+declarations_right (suc n) d [] = nothing_declared n d
+declarations_right (suc n) d (w ∷ ws) =
+    subst (Right (λ e rest. AllGrown d e (w ∷ ws) rest)) (sym (declared_shape n d w ws)) (one_turn (begins_declaration w.symbol) n d w ws refl (λ e ws. declarations_right n e ws))

@@ -16,6 +16,7 @@ use Rattle.sial_parser.specs.declared.word.Symbol.{Symbol}
 use Rattle.sial_parser.specs.declared.word.Symbol.TheVariants.{Key, Name, LineEnd}
 use Rattle.sial_parser.specs.declared.word.Word.{Word}
 use Rattle.sial_parser.proofs.OperandsSound.{same_bytes, condition_right}
+use Rattle.sial_parser.proofs.Shapes.{where_shape, where_empty}
 use Rattle.sial_parser.proofs.Rights.{Right, right_then, right_map, Good, name_good, skip_last, Says, line_end_says, comma_says}
 
 -- [name] NL
@@ -116,8 +117,12 @@ module _ (s : Scope) where
       (others (front ++ c ∷ []) rest))
   wheres_by false n front w ws e others = ([], sym (append-nil front), AreWheres.none e)
 
+  wheres_last : (n : ℕ) (front : List Cond) → Right (λ cs rest. (m : List Cond) × (cs ≡ front ++ m) × AreWheres s m [] rest) (wheres s (suc n) front [])
+  wheres_last n front = subst (Right (λ cs rest. (m : List Cond) × (cs ≡ front ++ m) × AreWheres s m [] rest)) (sym (where_empty s n front)) tt
+
   pub wheres_right : (n : ℕ) (front : List Cond) (ws : List Word) → Right (λ cs rest. (m : List Cond) × (cs ≡ front ++ m) × AreWheres s m ws rest) (wheres s n front ws)
   unfolding wheres
   wheres_right zero front ws = tt
-  wheres_right (suc n) front [] = tt
-  wheres_right (suc n) front (w ∷ ws) = wheres_by (is_where w.symbol) n front w ws refl (λ more rest. wheres_right n more rest)
+  wheres_right (suc n) front [] = wheres_last n front
+  wheres_right (suc n) front (w ∷ ws) =
+      subst (Right (λ cs rest. (m : List Cond) × (cs ≡ front ++ m) × AreWheres s m (w ∷ ws) rest)) (sym (where_shape s n front w ws)) (wheres_by (is_where w.symbol) n front w ws refl (λ more rest. wheres_right n more rest))

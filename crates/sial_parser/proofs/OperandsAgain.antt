@@ -19,6 +19,8 @@ use Rattle.sial_parser.specs.Grammar.{at, sign_at, go_on_with_open, is_where, Ar
 use Rattle.sial_parser.specs.Parsing.{◌>>=◌, index, index_by, array, array_by, scalar, scalar_by, goes_on, index_and, indices, dims, block, block_line, slot, slot_and, slots, slots_line, operand_at, alone, is_next, ends_operand, ends_target, bin_of, test_of, right, right_by, value_at, value_of, condition, cond_by, access, named_end, is_index, listed, listed_end, wheres, target_at, is_comma, is_line_end, closes}
 use Rattle.sial_parser.specs.Scope.{Scope, thing_of, IsIndex, IsArray, IsScalar}
 use Rattle.sial_parser.specs.declared.fault.ParseFault.{ParseFault}
+use Rattle.sial_parser.proofs.Shapes.{where_shape}
+use Rattle.sial_parser.specs.declared.keyword.Keyword.TheVariants as key
 use Rattle.sial_parser.specs.declared.sign.Sign.{Sign}
 use Rattle.sial_parser.specs.declared.sign.Sign.TheVariants as sign
 use Rattle.sial_parser.specs.declared.word.Symbol.{Symbol}
@@ -215,7 +217,7 @@ module _ (s : Scope) where
   value_short _ _ _ (IsValue.scalar e) = omega arith
   value_short _ _ _ (IsValue.index e) = omega arith
 
-  cond_short : (c : Cond) (ws rest : List Word) → IsCond s c ws rest → length rest ≤ length ws
+  pub cond_short : (c : Cond) (ws rest : List Word) → IsCond s c ws rest → length rest ≤ length ws
   cond_short _ _ _ (IsCond.cond {a = a} {b = b} {what = what} {l = l} {k = k} {ws = ws} {between = between} {rest = rest} h is g) =
       let one : length between + 1 ≤ length ws = omega (arith, value_short a ws (sign_at l what ∷ between) h) in
       let two : length rest + 1 ≤ length between = omega (arith, value_short b between (at k LineEnd ∷ rest) g) in
@@ -228,10 +230,10 @@ module _ (s : Scope) where
   wheres_from : (cs : List Cond) (ws rest : List Word) → AreWheres s cs ws rest → (n : ℕ) → length cs < n → (front : List Cond) → wheres s n front ws ≡ Ok (front ++ cs, rest)
   unfolding wheres
   wheres_from _ _ _ (AreWheres.none {w = w} {ws = ws} e) zero few front = absurd (omega (arith, few))
-  wheres_from _ _ _ (AreWheres.none {w = w} {ws = ws} e) (suc n) few front = if_false (is_where w.symbol) _ _ _ e (ap (λ xs. Ok (xs, w ∷ ws)) (sym (append-nil front)))
+  wheres_from _ _ _ (AreWheres.none {w = w} {ws = ws} e) (suc n) few front = where_shape s n front w ws ∙ if_false (is_where w.symbol) _ _ _ e (ap (λ xs. Ok (xs, w ∷ ws)) (sym (append-nil front)))
   wheres_from _ _ _ (AreWheres.more {c = c} {cs = cs} {ws = ws} {between = between} {rest = rest} h others) zero few front = absurd (omega (arith, few))
-  wheres_from _ _ _ (AreWheres.more {c = c} {cs = cs} {ws = ws} {between = between} {rest = rest} h others) (suc n) few front =
-      then_is _ _ _ _ (condition_again c ws between h) (wheres_from cs between rest others n (omega (arith, few)) (front ++ c ∷ []) ∙ ap (λ xs. Ok (xs, rest)) (append_assoc front (c ∷ []) cs))
+  wheres_from _ _ _ (AreWheres.more {c = c} {cs = cs} {l = l} {ws = ws} {between = between} {rest = rest} h others) (suc n) few front =
+      where_shape s n front (at l (Key key.Where)) ws ∙ then_is _ _ _ _ (condition_again c ws between h) (wheres_from cs between rest others n (omega (arith, few)) (front ++ c ∷ []) ∙ ap (λ xs. Ok (xs, rest)) (append_assoc front (c ∷ []) cs))
 
   pub wheres_again : (cs : List Cond) (ws rest : List Word) → AreWheres s cs ws rest → wheres s (length ws + 1) [] ws ≡ Ok (cs, rest)
   wheres_again cs ws rest h = wheres_from cs ws rest h (length ws + 1) (omega (arith, wheres_short cs ws rest h)) []

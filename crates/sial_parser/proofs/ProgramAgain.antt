@@ -7,13 +7,13 @@ use Rattle.std.proofs.lemmas.List.Sums.{sum_by-cons}
 use Rattle.sial_syntax.specs.Limits.{most_statements, most_names, most_nesting}
 use Rattle.sial_syntax.specs.Numbering.{statements}
 use Rattle.sial_syntax.specs.Proper.{body_nesting}
-use Rattle.sial_syntax.specs.Tree.{Tree, Procedure}
+use Rattle.sial_syntax.specs.Tree.{Tree, Procedure, Block}
 use Rattle.sial_syntax.specs.declared.array.ArrayKind.{ArrayKind}
 use Rattle.sial_syntax.specs.declared.index.Bound.{Bound}
 use Rattle.sial_syntax.specs.declared.index.Kind.{Kind}
 use Rattle.sial_syntax.specs.declared.index.Range.TheVariants as range
-use Rattle.sial_parser.specs.Grammar.{at, sign_at, begins_declaration, begins_proc, IsBound, IsKind, IsArrayKind, AreDims, Declares, AreDeclarations, AreProcs, IsProgram, numbered, names_of, tree_of}
-use Rattle.sial_parser.specs.Parsing.{Read, is_some, new_name, new_by, bound_at, segments_at, subindex_at, scalar_decl_at, array_decl_at, declaration, declaration_by, declarations, proc_names, procs, program_from, read_program}
+use Rattle.sial_parser.specs.Grammar.{at, sign_at, begins_declaration, begins_proc, IsBound, IsKind, IsArrayKind, AreDims, IsNamedEnd, IsBody, Declares, AreDeclarations, AreProcs, IsProgram, numbered, names_of, tree_of}
+use Rattle.sial_parser.specs.Parsing.{Read, is_some, new_name, new_by, bound_at, segments_at, subindex_at, scalar_decl_at, array_decl_at, declaration, declaration_by, declarations, proc_names, with_procs, proc_at, procs, program_from, read_program}
 use Rattle.sial_parser.specs.Scope.{Scope, IsFree, Declared, nothing, with_index, with_array}
 use Rattle.sial_parser.specs.declared.fault.Counted.{Counted}
 use Rattle.sial_parser.specs.declared.fault.Counted.TheVariants as counts
@@ -25,6 +25,8 @@ use Rattle.sial_parser.specs.declared.word.Symbol.{Symbol}
 use Rattle.sial_parser.specs.declared.word.Symbol.TheVariants.{Key, Name, LineEnd, End}
 use Rattle.sial_parser.specs.declared.word.Word.{Word}
 use Rattle.sial_parser.proofs.NoProcs.{procs_named, end_named}
+use Rattle.sial_parser.proofs.ProcNames.{procs_scope}
+use Rattle.sial_parser.proofs.Shapes.{proc_shape, declared_shape}
 use Rattle.sial_parser.proofs.OperandsAgain.{then_is, if_true, if_false, index_again, dims_again, named_end_again}
 use Rattle.sial_parser.proofs.ProgramSound.{in_procs}
 use Rattle.sial_parser.proofs.StatementsAgain.{forms_back, body_again}
@@ -138,16 +140,19 @@ array_begins _ _ IsArrayKind.served = refl
 declared_on : (n : ℕ) (d e : Declared) (ws between : List Word) (z : Read Declared) → Declares d e ws between → Room e → declarations n e between ≡ z → declarations (suc n) d ws ≡ z
 unfolding declarations
 declared_on n d e _ _ z (Declares.segments {of = of} {what = what} {name = x} {lo = lo} {hi = hi} {first = first} {last = last} {l = l} {k = k} {m = m} {h = h} {j = j} {n = o} {i = i} {rest = rest} is free is_lo is_hi) room next =
-    if_true (begins_declaration (Key what)) _ _ _ (kind_begins of what is) (then_is _ _ _ _ (declaration_again d _ _ rest (Declares.segments {k = k} {m = m} {h = h} {j = j} {n = o} {i = i} is free is_lo is_hi) room) next)
-declared_on n d e _ _ z (Declares.subindex {k = k} {m = m} {h = h} {j = j} {rest = rest} free f) room next = then_is _ _ _ _ (declaration_again d _ _ rest (Declares.subindex {k = k} {m = m} {h = h} {j = j} free f) room) next
-declared_on n d e _ _ z (Declares.scalar {l = l} {k = k} {m = m} {rest = rest} free) room next = then_is _ _ _ _ (declaration_again d _ _ rest (Declares.scalar {l = l} {k = k} {m = m} free) room) next
-declared_on n d e _ _ z (Declares.array {of = of} {what = what} {k = k} {m = m} {rest = rest} kind free h) room next =
-    if_true (begins_declaration (Key what)) _ _ _ (array_begins of what kind) (then_is _ _ _ _ (declaration_again d _ _ rest (Declares.array {k = k} kind free h) room) next)
+    declared_shape n d (at l (Key what)) (at k (Name x) ∷ sign_at m sign.Equals ∷ at h first ∷ sign_at j sign.Comma ∷ at o last ∷ at i LineEnd ∷ rest)
+    ∙ if_true (begins_declaration (Key what)) _ _ _ (kind_begins of what is) (then_is _ _ _ _ (declaration_again d _ _ rest (Declares.segments {k = k} {m = m} {h = h} {j = j} {n = o} {i = i} is free is_lo is_hi) room) next)
+declared_on n d e _ _ z (Declares.subindex {name = x} {super = y} {l = l} {k = k} {m = m} {h = h} {j = j} {rest = rest} free f) room next =
+    declared_shape n d (at l (Key key.SubIndex)) (at k (Name x) ∷ at m (Key key.Of) ∷ at h (Name y) ∷ at j LineEnd ∷ rest) ∙ then_is _ _ _ _ (declaration_again d _ _ rest (Declares.subindex {k = k} {m = m} {h = h} {j = j} free f) room) next
+declared_on n d e _ _ z (Declares.scalar {name = x} {l = l} {k = k} {m = m} {rest = rest} free) room next =
+    declared_shape n d (at l (Key key.Scalar)) (at k (Name x) ∷ at m LineEnd ∷ rest) ∙ then_is _ _ _ _ (declaration_again d _ _ rest (Declares.scalar {l = l} {k = k} {m = m} free) room) next
+declared_on n d e _ _ z (Declares.array {of = of} {what = what} {name = x} {l = l} {k = k} {m = m} {ws = ws} {rest = rest} kind free h) room next =
+    declared_shape n d (at l (Key what)) (at k (Name x) ∷ ws) ∙ if_true (begins_declaration (Key what)) _ _ _ (array_begins of what kind) (then_is _ _ _ _ (declaration_again d _ _ rest (Declares.array {k = k} kind free h) room) next)
 
 declarations_again : (d e : Declared) (ws rest : List Word) → AreDeclarations d e ws rest → Room e → (n : ℕ) → total e < n + total d → declarations n d ws ≡ Ok (e, rest)
 unfolding declarations
 declarations_again _ _ _ _ (AreDeclarations.none {d = d} {w = w} {ws = ws} e) room zero few = absurd (omega (arith, few))
-declarations_again _ _ _ _ (AreDeclarations.none {d = d} {w = w} {ws = ws} e) room (suc n) few = if_false (begins_declaration w.symbol) _ _ _ e refl
+declarations_again _ _ _ _ (AreDeclarations.none {d = d} {w = w} {ws = ws} e) room (suc n) few = declared_shape n _ w ws ∙ if_false (begins_declaration w.symbol) _ _ _ e refl
 declarations_again _ _ _ _ (AreDeclarations.more {d = d} {e = e} {f = f} {ws = ws} {between = between} {rest = rest} one others) room zero few =
     let first = one_more d e ws between one in
     let then = all_below e f between rest others in
@@ -164,25 +169,34 @@ with_proc ps front p rest left part all others e =
     let k : (left - part) - others ≡ left - all = omega (arith, e) in
     ap (λ xs. Ok ((xs, (left - part) - others), rest)) (append_assoc front (p ∷ []) ps) ∙ ap (λ m. Ok ((front ++ (p ∷ ps), m), rest)) k
 
+-- a procedure behind `proc`, where so many statements are left
+proc_again : (s before : Scope) (number : ℕ) (x : List ℕ) (b : Block) (k m j : ℕ) (ws ends rest : List Word) → IsFree before x → number < most_names → IsBody s b ws (at j (Key key.EndProc) ∷ ends) → IsNamedEnd x ends rest
+    → body_nesting b ≤ most_nesting → (left : ℕ) → statements b ≤ left → proc_at true s before number left (at k (Name x) ∷ at m LineEnd ∷ ws) ≡ Ok ((record { name = x; body = b }, left - statements b), rest)
+unfolding proc_at
+proc_again s before number x b k m j ws ends rest free room h end deep left some =
+    then_is _ _ _ _ (new_again before number counts.Procs k x (at m LineEnd ∷ ws) free room)
+    (then_is _ _ _ _ (body_again s most_nesting b ws (at j (Key key.EndProc) ∷ ends) h deep left some)
+    (then_is _ _ _ _ (named_end_again s x ends rest end)
+    (ap (λ c. Ok ((record { name = x; body = c }, left - statements b), rest)) (forms_back b))))
+
 -- procedures, where so many statements are left
 procs_again : (s before : Scope) (number : ℕ) (ps : List Procedure) (ws rest : List Word) → AreProcs s before number ps ws rest → (front : List Procedure) → length front ≡ number → number + length ps ≤ most_names
     → AllByRecursion (λ (q : Procedure). body_nesting q.body ≤ most_nesting) ps → (left : ℕ) → in_procs ps ≤ left → (n : ℕ) → length ps < n → procs true s n before front left ws ≡ Ok ((front ++ ps, left - in_procs ps), rest)
 unfolding procs
 procs_again s _ _ _ _ _ (AreProcs.none {w = w} {ws = ws} e) front long few deep left some zero turns = absurd (omega (arith, turns))
-procs_again s _ _ _ _ _ (AreProcs.none {w = w} {ws = ws} e) front long few deep left some (suc n) turns =
-    if_false (begins_proc w.symbol) _ _ _ e (ap (λ xs. Ok ((xs, left), w ∷ ws)) (sym (append-nil front)) ∙ (let k : left ≡ left - 0 = omega arith in ap (λ m. Ok ((front ++ [], m), w ∷ ws)) k))
+procs_again s _ _ _ _ _ (AreProcs.none {before = before} {w = w} {ws = ws} e) front long few deep left some (suc n) turns =
+    proc_shape true s n before front left w ws
+    ∙ if_false (begins_proc w.symbol) _ _ _ e (ap (λ xs. Ok ((xs, left), w ∷ ws)) (sym (append-nil front)) ∙ (let k : left ≡ left - 0 = omega arith in ap (λ m. Ok ((front ++ [], m), w ∷ ws)) k))
 procs_again s _ _ _ _ _ (AreProcs.more free h end others) front long few deep left some zero turns = absurd (omega (arith, turns))
 procs_again s _ _ _ _ _ (AreProcs.more {before = before} {n = number} {name = x} {body = b} {others = ps} {l = l} {k = k} {m = m} {j = j} {ws = ws} {ends = ends} {between = between} {rest = rest} free h end others) front long few deep left some (suc n) turns =
     let p : Procedure = record { name = x; body = b } in
     let parts : in_procs (p ∷ ps) ≡ statements b + in_procs ps = sum_by-cons (λ (q : Procedure). statements q.body) p ps in
     let others_is = subst (λ (c : ℕ). AreProcs s (before ++ record { name = x; thing = Proc c } ∷ []) (number + 1) ps between rest) (sym long) others in
     let longer : length (front ++ p ∷ []) ≡ number + 1 = length-append front (p ∷ []) ∙ ap (λ c. c + 1) long in
-    then_is _ _ _ _ (new_again before (length front) counts.Procs k x (at m LineEnd ∷ ws) free (omega (arith, long, few)))
-    (then_is _ _ _ _ (body_again s most_nesting b ws (at j (Key key.EndProc) ∷ ends) h deep.0 left (omega (arith, some, parts)))
-    (then_is _ _ _ _ (named_end_again s x ends between end)
-    (ap (λ c. procs true s n (before ++ record { name = x; thing = Proc (length front) } ∷ []) (front ++ record { name = x; body = c } ∷ []) (left - statements b) between) (forms_back b)
-    ∙ procs_again s (before ++ record { name = x; thing = Proc (length front) } ∷ []) (number + 1) ps between rest others_is (front ++ p ∷ []) longer (omega (arith, few)) deep.1 (left - statements b) (omega (arith, some, parts)) n (omega (arith, turns))
-    ∙ with_proc ps front p rest left (statements b) (in_procs (p ∷ ps)) (in_procs ps) parts)))
+    proc_shape true s n before front left (at l (Key key.Proc)) (at k (Name x) ∷ at m LineEnd ∷ ws)
+    ∙ then_is _ _ _ _ (proc_again s before (length front) x b k m j ws ends between free (omega (arith, long, few)) h end deep.0 left (omega (arith, some, parts)))
+    (procs_again s (before ++ record { name = x; thing = Proc (length front) } ∷ []) (number + 1) ps between rest others_is (front ++ p ∷ []) longer (omega (arith, few)) deep.1 (left - statements b) (omega (arith, some, parts)) n (omega (arith, turns))
+    ∙ with_proc ps front p rest left (statements b) (in_procs (p ∷ ps)) (in_procs ps) parts)
 
 -- a program
 pub program_again : (p : Tree) (ws : List Word) → IsProgram p ws → read_program true ws ≡ Ok p
@@ -191,9 +205,11 @@ program_again _ _ (IsProgram.program {name = title} {d = d} {procs = ps} {body =
     let s : Scope = d.scope ++ numbered 0 (names_of ps) in
     let none : proc_names second ≡ [] = end_named s b title j h second ends (Key key.EndSial) refl body_is end in
     let names : proc_names first ≡ names_of ps = procs_named s d.scope 0 ps first second are ∙ ap (λ xs. names_of ps ++ xs) none ∙ append-nil (names_of ps) in
+    let few : 0 + length ps ≤ most_names = omega (arith, within.procedures) in
+    let scope : with_procs d.scope 0 (proc_names first) ≡ s = ap (with_procs d.scope 0) names ∙ procs_scope s d.scope 0 ps first second are few in
     let room : Room d = record { indices = within.indices; arrays = within.arrays; scalars = within.scalars } in
     then_is _ _ _ _ (declarations_again nothing d ws first declared room (3 * most_names + 1) (omega (arith, room.indices, room.arrays, room.scalars)))
-    (ap (λ xs. program_from true (d.scope ++ numbered 0 xs) title d first) names
-    ∙ then_is _ _ _ _ (procs_again s d.scope 0 ps first second are [] refl (omega (arith, within.procedures)) within.nestings most_statements (omega (arith, within.statements)) (most_names + 1) (omega (arith, within.procedures)))
+    (ap (λ t. program_from true t title d first) scope
+    ∙ then_is _ _ _ _ (procs_again s d.scope 0 ps first second are [] refl few within.nestings most_statements (omega (arith, within.statements)) (most_names + 1) (omega (arith, within.procedures)))
     (then_is _ _ _ _ (body_again s most_nesting b second (at j (Key key.EndSial) ∷ ends) body_is within.nesting (most_statements - in_procs ps) (omega (arith, within.statements)))
     (then_is _ _ _ _ (named_end_again s title ends (at h End ∷ []) end) (ap (λ c. Ok (tree_of title d ps c)) (forms_back b)))))

@@ -16,6 +16,7 @@ use Rattle.sial_parser.specs.declared.sign.Sign.TheVariants as sign
 use Rattle.sial_parser.specs.declared.word.Symbol.TheVariants.{Key, Name, Number, Quoted, LineEnd, End}
 use Rattle.sial_parser.specs.declared.word.Symbol.TheVariants as symbol
 use Rattle.sial_parser.specs.declared.word.Word.{Word}
+use Rattle.sial_parser.proofs.Shapes.{turn_shape}
 use Rattle.sial_parser.proofs.OperandsAgain.{then_is, if_true, if_false, index_again, array_again, scalar_again, indices_again, block_again, block_line_again, slots_line_again, right_again, condition_again, target_again, access_again, named_end_again, listed_end_again, wheres_again}
 
 -- the statements of a block, in a list
@@ -175,11 +176,11 @@ module _ (s : Scope) where
     unfolding turns
     turns_again _ _ _ (IsBody.none e) deep left some zero few front = absurd (omega (arith, few))
     turns_again _ _ _ (IsBody.none {w = w} {ws = ws} e) deep left some (suc n) few front =
-        if_true (ends_body w.symbol) _ _ _ e (ap (λ xs. Ok ((xs, left), w ∷ ws)) (sym (append-nil front)) ∙ (let k : left ≡ left - 0 = omega arith in ap (λ m. Ok ((front ++ [], m), w ∷ ws)) k))
+        turn_shape one n front left w ws ∙ if_true (ends_body w.symbol) _ _ _ e (ap (λ xs. Ok ((xs, left), w ∷ ws)) (sym (append-nil front)) ∙ (let k : left ≡ left - 0 = omega arith in ap (λ m. Ok ((front ++ [], m), w ∷ ws)) k))
     turns_again _ _ _ (IsBody.more h others) deep left some zero few front = absurd (omega (arith, few))
     turns_again _ _ _ (IsBody.more {form = form} {others = o} {w = w} {ws = ws} {between = between} {rest = rest} h others) deep left some (suc n) few front =
         let left_after : (left - statements_in form) - statements o ≡ left - (statements_in form + statements o) = omega (arith, some) in
-        if_false (ends_body w.symbol) _ _ _ (begins form (w ∷ ws) between h)
+        turn_shape one n front left w ws ∙ if_false (ends_body w.symbol) _ _ _ (begins form (w ∷ ws) between h)
         (then_is _ _ _ _ (reads form (w ∷ ws) between h (omega (arith, deep)) left (omega (arith, some)))
         (turns_again o between rest others (omega (arith, deep)) (left - statements_in form) (omega (arith, some)) n (omega (arith, few, one_at_least form)) (front ++ (w.line, form) ∷ [])
         ∙ ap (λ xs. Ok ((xs, (left - statements_in form) - statements o), rest)) (append_assoc front ((w.line, form) ∷ []) (forms_of o)) ∙ ap (λ m. Ok ((front ++ ((w.line, form) ∷ forms_of o), m), rest)) left_after))

@@ -1,7 +1,11 @@
 pub mod Scope
+pub mod Names
 pub mod Grammar
 pub mod Words
 pub mod Parsing
 pub mod Whole
+pub mod Answers
+pub mod Closings
 pub mod Laws
+pub mod Inners
 pub mod Sound

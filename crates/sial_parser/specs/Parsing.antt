@@ -1,5 +1,5 @@
 -- A program's words read from the first on: its tree, or the first fault.
-use Rattle.std.specs.Prelude.{ℕ, zero, suc, ◌+◌, ◌*◌, List, [], ◌∷◌, ◌++◌, Bool, true, false, if◌then◌else◌, ◌==◌, nat_lt, length, Option, Some, None, Result, Ok, Err, codes}
+use Rattle.std.specs.Prelude.{ℕ, zero, suc, ◌+◌, ◌*◌, List, [], ◌∷◌, ◌++◌, Bool, true, false, if◌then◌else◌, ◌==◌, ◌&&◌, not, nat_lt, length, Option, Some, None, Result, Ok, Err, codes}
 use Rattle.std.specs.Str.{bytes_eq}
 use Rattle.sial_syntax.specs.Limits.{most_statements, most_names, most_nesting, most_rank, most_pardo}
 use Rattle.sial_syntax.specs.Tree.{Tree, Procedure, Plain, block_of, Do, DoIn, Pardo, If, IfElse, Call, Assign, Get, Request, Put, Prepare, Create, Delete, Allocate, Deallocate, Collective, SipBarrier, ServerBarrier, Print, PrintScalar, Integrals}
@@ -30,7 +30,7 @@ use Rattle.sial_syntax.specs.declared.operand.Slot.{Slot}
 use Rattle.sial_syntax.specs.declared.operand.Slot.TheVariants.{At, All}
 use Rattle.sial_syntax.specs.declared.operand.Target.{Target}
 use Rattle.sial_syntax.specs.declared.operand.Target.TheVariants as target
-use Rattle.sial_parser.specs.Grammar.{opens, go_on_with_open, negative, ends_body, is_where, begins_proc, begins_declaration, numbered, tree_of}
+use Rattle.sial_parser.specs.Grammar.{opens, go_on_with_open, negative, ends_body, is_where, begins_proc, begins_declaration, tree_of}
 use Rattle.sial_parser.specs.Scope.{Scope, thing_of, Declared, nothing, with_index, with_array, with_scalar}
 use Rattle.sial_parser.specs.declared.fault.Counted.{Counted}
 use Rattle.sial_parser.specs.declared.fault.Counted.TheVariants as counts
@@ -267,16 +267,17 @@ abbrev pub alone : (line : ℕ) → (fits : Bool) → Option Thing → List Word
 alone line true thing ws = scalar_by line thing >>= λ x. Ok (x, ws)
 alone line false thing ws = known line thing >>= λ x. unexpected ws
 
--- operand
-abbrev pub named_operand : Scope → (name : List ℕ) → Word → List Word → Read Operand
-named_operand s name w ws =
+-- an operand that begins with a name, by what it is declared as
+abbrev pub thing_operand : Scope → Option Thing → List Word → Read Operand
+thing_operand s thing [] = unexpected []
+thing_operand s thing (w ∷ ws) =
     if go_on_with_open ws then (block s (w ∷ ws) >>= λ b. Ok (operand.Block b.0, b.1))
-    else (alone w.line (is_next ends_operand ws) (thing_of s name) ws >>= λ x. Ok (operand.Scalar x.0, x.1))
+    else (alone w.line (is_next ends_operand ws) thing ws >>= λ x. Ok (operand.Scalar x.0, x.1))
 
 abbrev pub operand_by : Scope → Symbol → Word → List Word → Read Operand
 operand_by s (Number n) w ws = Ok (operand.Number n, ws)
 operand_by s (symbol.Sign sign.Minus) w ws = number ws >>= λ n. Ok (operand.Number (negative n.0), n.1)
-operand_by s (Name name) w ws = named_operand s name w ws
+operand_by s (Name name) w ws = thing_operand s (thing_of s name) (w ∷ ws)
 operand_by s _ w ws = unexpected (w ∷ ws)
 
 unfoldable pub operand_at : Scope → List Word → Read Operand
@@ -365,11 +366,20 @@ unfoldable pub listed_end : Scope → (opener : List ℕ) → List Word → Resu
 listed_end s opener [] = unexpected []
 listed_end s opener (w ∷ ws) = if is_line_end w.symbol then Ok ws else listed s opener (w ∷ ws)
 
+-- a line of `where`, if one stands there
+unfoldable pub where_one : Scope → List Word → Read (Option Cond)
+where_one s [] = unexpected []
+where_one s (w ∷ ws) = if is_where w.symbol then (condition s ws >>= λ c. Ok (Some c.0, c.1)) else Ok (None, w ∷ ws)
+
+-- with one more condition, if there is one
+abbrev pub with_where : (List Cond → List Word → Read (List Cond)) → (front : List Cond) → Option Cond → List Word → Read (List Cond)
+with_where go front None ws = Ok (front, ws)
+with_where go front (Some c) ws = go (front ++ c ∷ []) ws
+
 -- {"where" cond NL}, in so many turns, behind those in front; each turn takes a word, so there are enough
 unfoldable pub wheres : Scope → (turns : ℕ) → (front : List Cond) → List Word → Read (List Cond)
 wheres s zero front ws = unexpected ws
-wheres s (suc n) front [] = unexpected []
-wheres s (suc n) front (w ∷ ws) = if is_where w.symbol then (condition s ws >>= λ c. wheres s n (front ++ c.0 ∷ []) c.1) else Ok (front, w ∷ ws)
+wheres s (suc n) front ws = where_one s ws >>= λ x. with_where (wheres s n) front x.0 x.1
 
 -- more tests of a symbol
 abbrev pub is_in : Symbol → Bool
@@ -386,9 +396,9 @@ block_line s ws = block s ws >>= λ b. skip is_line_end b.1 >>= λ rest. Ok (b.0
 
 -- a called procedure; where only faults that stand before an undeclared one are looked for, any name is taken
 abbrev pub called : (strict : Bool) → (line : ℕ) → Option Thing → Result ℕ ParseFault
-called strict line (Some (Proc p)) = Ok p
+called false line thing = Ok 0
+called true line (Some (Proc p)) = Ok p
 called true line _ = Err (Undeclared line)
-called false line _ = Ok 0
 
 -- the statements that have no body, behind their first word
 unfoldable pub call_at : (strict : Bool) → Scope → List Word → Read Plain
@@ -527,43 +537,96 @@ abbrev pub with_left : ℕ → Read Plain → Read (Plain × ℕ)
 with_left n read = read >>= λ x. Ok ((x.0, n), x.1)
 
 -- what a name that begins a statement has to be
-abbrev pub target_first : Scope → (name : List ℕ) → Word → List Word → Result ℕ ParseFault
-target_first s name w ws =
-    if go_on_with_open ws then array_by w.line (thing_of s name)
-    else (if is_next ends_target ws then scalar_by w.line (thing_of s name) else known w.line (thing_of s name))
+abbrev pub first_by : Scope → (name : List ℕ) → (line : ℕ) → List Word → Result ℕ ParseFault
+first_by s name line ws =
+    if go_on_with_open ws then array_by line (thing_of s name)
+    else (if is_next ends_target ws then scalar_by line (thing_of s name) else known line (thing_of s name))
 
--- a statement, by its first word
+abbrev pub target_first : Scope → (name : List ℕ) → Word → List Word → Result ℕ ParseFault
+target_first s name w ws = first_by s name w.line ws
+
+-- whether a symbol begins a statement without a body that is no assignment
+abbrev pub begins_simple : Symbol → Bool
+begins_simple (Key key.Call) = true
+begins_simple (Key key.Get) = true
+begins_simple (Key key.Request) = true
+begins_simple (Key key.Put) = true
+begins_simple (Key key.Prepare) = true
+begins_simple (Key key.Create) = true
+begins_simple (Key key.Delete) = true
+begins_simple (Key key.Allocate) = true
+begins_simple (Key key.Deallocate) = true
+begins_simple (Key key.Collective) = true
+begins_simple (Key key.SipBarrier) = true
+begins_simple (Key key.ServerBarrier) = true
+begins_simple (Key key.Print) = true
+begins_simple (Key key.Execute) = true
+begins_simple _ = false
+
+-- such a statement, by its first symbol
+abbrev pub simple_by : (strict : Bool) → Scope → Symbol → List Word → Read Plain
+simple_by strict s (Key key.Call) ws = call_at strict s ws
+simple_by strict s (Key key.Get) ws = get_at s ws
+simple_by strict s (Key key.Request) ws = request_at s ws
+simple_by strict s (Key key.Put) ws = put_at s ws
+simple_by strict s (Key key.Prepare) ws = prepare_at s ws
+simple_by strict s (Key key.Create) ws = create_at s ws
+simple_by strict s (Key key.Delete) ws = delete_at s ws
+simple_by strict s (Key key.Allocate) ws = allocate_at s ws
+simple_by strict s (Key key.Deallocate) ws = deallocate_at s ws
+simple_by strict s (Key key.Collective) ws = collective_at s ws
+simple_by strict s (Key key.SipBarrier) ws = barrier_at SipBarrier ws
+simple_by strict s (Key key.ServerBarrier) ws = barrier_at ServerBarrier ws
+simple_by strict s (Key key.Print) ws = print_at ws
+simple_by strict s (Key key.Execute) ws = execute_at s ws
+simple_by strict s _ ws = unexpected ws
+
+-- whether a symbol begins a statement with a body
+abbrev pub begins_compound : Symbol → Bool
+begins_compound (Key key.Do) = true
+begins_compound (Key key.Pardo) = true
+begins_compound (Key key.If) = true
+begins_compound _ = false
+
+-- such a statement, by its first symbol
+abbrev pub compound_by : Scope → Inner → (left : ℕ) → Symbol → List Word → Read (Plain × ℕ)
+compound_by s body left (Key key.Do) ws = do_at s body left ws
+compound_by s body left (Key key.Pardo) ws = pardo_at s body left ws
+compound_by s body left (Key key.If) ws = if_at s body left ws
+compound_by s body left _ ws = unexpected ws
+
+-- what isn't an assignment, by its first symbol
+abbrev pub other_statement : (strict : Bool) → Scope → Option Inner → (left : ℕ) → Symbol → Word → List Word → Read (Plain × ℕ)
+other_statement strict s inner left what w ws =
+    if begins_compound what then counted left w.line (λ n. deeper inner w.line (λ body. compound_by s body n what ws))
+    else (if begins_simple what then counted left w.line (λ n. with_left n (simple_by strict s what ws)) else unexpected (w ∷ ws))
+
+-- a statement, by its first symbol
 abbrev pub statement_by : (strict : Bool) → Scope → Option Inner → (left : ℕ) → Symbol → Word → List Word → Read (Plain × ℕ)
-statement_by strict s inner left (Key key.Do) w ws = counted left w.line (λ n. deeper inner w.line (λ body. do_at s body n ws))
-statement_by strict s inner left (Key key.Pardo) w ws = counted left w.line (λ n. deeper inner w.line (λ body. pardo_at s body n ws))
-statement_by strict s inner left (Key key.If) w ws = counted left w.line (λ n. deeper inner w.line (λ body. if_at s body n ws))
-statement_by strict s inner left (Key key.Call) w ws = counted left w.line (λ n. with_left n (call_at strict s ws))
-statement_by strict s inner left (Key key.Get) w ws = counted left w.line (λ n. with_left n (get_at s ws))
-statement_by strict s inner left (Key key.Request) w ws = counted left w.line (λ n. with_left n (request_at s ws))
-statement_by strict s inner left (Key key.Put) w ws = counted left w.line (λ n. with_left n (put_at s ws))
-statement_by strict s inner left (Key key.Prepare) w ws = counted left w.line (λ n. with_left n (prepare_at s ws))
-statement_by strict s inner left (Key key.Create) w ws = counted left w.line (λ n. with_left n (create_at s ws))
-statement_by strict s inner left (Key key.Delete) w ws = counted left w.line (λ n. with_left n (delete_at s ws))
-statement_by strict s inner left (Key key.Allocate) w ws = counted left w.line (λ n. with_left n (allocate_at s ws))
-statement_by strict s inner left (Key key.Deallocate) w ws = counted left w.line (λ n. with_left n (deallocate_at s ws))
-statement_by strict s inner left (Key key.Collective) w ws = counted left w.line (λ n. with_left n (collective_at s ws))
-statement_by strict s inner left (Key key.SipBarrier) w ws = counted left w.line (λ n. with_left n (barrier_at SipBarrier ws))
-statement_by strict s inner left (Key key.ServerBarrier) w ws = counted left w.line (λ n. with_left n (barrier_at ServerBarrier ws))
-statement_by strict s inner left (Key key.Print) w ws = counted left w.line (λ n. with_left n (print_at ws))
-statement_by strict s inner left (Key key.Execute) w ws = counted left w.line (λ n. with_left n (execute_at s ws))
 statement_by strict s inner left (Name name) w ws = target_first s name w ws >>= λ x. counted left w.line (λ n. with_left n (assign_at s (w ∷ ws)))
-statement_by strict s inner left _ w ws = unexpected (w ∷ ws)
+statement_by strict s inner left what w ws = other_statement strict s inner left what w ws
 
 unfoldable pub statement : (strict : Bool) → Scope → Option Inner → (left : ℕ) → List Word → Read (Plain × ℕ)
 statement strict s inner left [] = unexpected []
 statement strict s inner left (w ∷ ws) = statement_by strict s inner left w.symbol w ws
 
+-- a statement with its line, and how many are left behind it, if no end word stands there
+abbrev pub Turn : Type 0
+Turn = Option ((ℕ × Plain) × ℕ)
+
+unfoldable pub turn_of : ((left : ℕ) → List Word → Read (Plain × ℕ)) → (left : ℕ) → List Word → Read Turn
+turn_of one left [] = unexpected []
+turn_of one left (w ∷ ws) = if ends_body w.symbol then Ok (None, w ∷ ws) else (one left (w ∷ ws) >>= λ x. Ok (Some ((w.line, x.0.0), x.0.1), x.1))
+
+-- with one more statement, if there is one
+abbrev pub with_turn : (List (ℕ × Plain) → ℕ → List Word → Read Statements) → (front : List (ℕ × Plain)) → (left : ℕ) → Turn → List Word → Read Statements
+with_turn go front left None ws = Ok ((front, left), ws)
+with_turn go front left (Some t) ws = go (front ++ t.0 ∷ []) t.1 ws
+
 -- {stmt} up to an end word, in so many turns, behind those in front; each turn takes a statement, so there are enough
 unfoldable pub turns : ((left : ℕ) → List Word → Read (Plain × ℕ)) → (turns : ℕ) → (front : List (ℕ × Plain)) → (left : ℕ) → List Word → Read Statements
 turns one zero front left ws = unexpected ws
-turns one (suc n) front left [] = unexpected []
-turns one (suc n) front left (w ∷ ws) =
-    if ends_body w.symbol then Ok ((front, left), w ∷ ws) else (one left (w ∷ ws) >>= λ x. turns one n (front ++ (w.line, x.0.0) ∷ []) x.0.1 x.1)
+turns one (suc n) front left ws = turn_of one left ws >>= λ x. with_turn (turns one n) front left x.0 x.1
 
 -- {stmt}, in which so many bodies may nest
 unfoldable pub body : (depth : ℕ) → (strict : Bool) → Scope → Inner
@@ -630,11 +693,15 @@ unfoldable pub declaration : Declared → List Word → Read Declared
 declaration d [] = unexpected []
 declaration d (w ∷ ws) = declaration_by d w.symbol w ws
 
+-- a declaration, if one stands there
+unfoldable pub declared_one : Declared → List Word → Read (Declared × Bool)
+declared_one d [] = unexpected []
+declared_one d (w ∷ ws) = if begins_declaration w.symbol then (declaration d (w ∷ ws) >>= λ e. Ok ((e.0, true), e.1)) else Ok ((d, false), w ∷ ws)
+
 -- {decl NL}, in so many turns
 unfoldable pub declarations : (turns : ℕ) → Declared → List Word → Read Declared
 declarations zero d ws = unexpected ws
-declarations (suc n) d [] = unexpected []
-declarations (suc n) d (w ∷ ws) = if begins_declaration w.symbol then (declaration d (w ∷ ws) >>= λ e. declarations n e.0 e.1) else Ok (d, w ∷ ws)
+declarations (suc n) d ws = declared_one d ws >>= λ x. if x.0.1 then declarations n x.0.0 x.1 else Ok (x.0.0, x.1)
 
 -- the name of a symbol, if it is one
 abbrev pub name_in : Symbol → List (List ℕ)
@@ -651,19 +718,39 @@ abbrev pub proc_names : List Word → List (List ℕ)
 proc_names [] = []
 proc_names (w ∷ ws) = if begins_proc w.symbol then first_name ws ++ proc_names ws else proc_names ws
 
+-- whether a procedure of this name may still be declared
+abbrev pub is_new : Scope → (number : ℕ) → (name : List ℕ) → Bool
+is_new s number name = nat_lt number most_names && not (is_some (thing_of s name))
+
+-- with the procedures of these names, each if it is new
+abbrev pub with_procs : Scope → (number : ℕ) → List (List ℕ) → Scope
+with_procs s number [] = s
+with_procs s number (x ∷ xs) = if is_new s number x then with_procs (s ++ record { name = x; thing = Proc number } ∷ []) (number + 1) xs else with_procs s number xs
+
 -- procedures with how many statements there may be behind them
 abbrev pub Procedures : Type 0
 Procedures = List Procedure × ℕ
 
+-- a procedure behind `proc`, of which there are so many, and how many statements there may be behind it
+unfoldable pub proc_at : (strict : Bool) → Scope → (before : Scope) → (number left : ℕ) → List Word → Read (Procedure × ℕ)
+proc_at strict s before number left ws =
+    new_name before number counts.Procs ws >>= λ x. skip is_line_end x.1 >>= λ ws. body most_nesting strict s left ws >>= λ b. skip is_end_proc b.1 >>= λ ends. named_end x.0 ends >>= λ rest.
+    Ok ((record { name = x.0; body = block_of b.0.0 }, b.0.1), rest)
+
+-- a procedure, if one stands there
+unfoldable pub proc_one : (strict : Bool) → Scope → (before : Scope) → (number left : ℕ) → List Word → Read (Option (Procedure × ℕ))
+proc_one strict s before number left [] = unexpected []
+proc_one strict s before number left (w ∷ ws) = if begins_proc w.symbol then (proc_at strict s before number left ws >>= λ p. Ok (Some p.0, p.1)) else Ok (None, w ∷ ws)
+
+-- with one more procedure, if there is one
+abbrev pub with_proc : ((before : Scope) → List Procedure → ℕ → List Word → Read Procedures) → (before : Scope) → (front : List Procedure) → (left : ℕ) → Option (Procedure × ℕ) → List Word → Read Procedures
+with_proc go before front left None ws = Ok ((front, left), ws)
+with_proc go before front left (Some p) ws = go (before ++ record { name = p.0.name; thing = Proc (length front) } ∷ []) (front ++ p.0 ∷ []) p.1 ws
+
 -- {proc}, in so many turns, behind those in front
 unfoldable pub procs : (strict : Bool) → Scope → (turns : ℕ) → (before : Scope) → (front : List Procedure) → (left : ℕ) → List Word → Read Procedures
 procs strict s zero before front left ws = unexpected ws
-procs strict s (suc n) before front left [] = unexpected []
-procs strict s (suc n) before front left (w ∷ ws) =
-    if begins_proc w.symbol
-    then (new_name before (length front) counts.Procs ws >>= λ x. skip is_line_end x.1 >>= λ ws. body most_nesting strict s left ws >>= λ b. skip is_end_proc b.1 >>= λ ends. named_end x.0 ends >>= λ rest.
-    procs strict s n (before ++ record { name = x.0; thing = Proc (length front) } ∷ []) (front ++ record { name = x.0; body = block_of b.0.0 } ∷ []) b.0.1 rest)
-    else Ok ((front, left), w ∷ ws)
+procs strict s (suc n) before front left ws = proc_one strict s before (length front) left ws >>= λ x. with_proc (procs strict s n) before front left x.0 x.1
 
 -- the end of the text
 abbrev pub ended : List Word → Result (List Word) ParseFault
@@ -680,7 +767,7 @@ program_from strict s x d ws =
 unfoldable pub read_program : (strict : Bool) → List Word → Result Tree ParseFault
 read_program strict ws =
     skip is_sial ws >>= λ ws. name ws >>= λ x. skip is_line_end x.1 >>= λ ws. declarations (3 * most_names + 1) nothing ws >>= λ d.
-    program_from strict (d.0.scope ++ numbered 0 (proc_names d.1)) x.0 d.0 d.1
+    program_from strict (with_procs d.0.scope 0 (proc_names d.1)) x.0 d.0 d.1
 
 -- an undeclared procedure comes after all other faults
 abbrev pub last_fault : ParseFault → Result Tree ParseFault → Result Tree ParseFault

@@ -1,6 +1,9 @@
 //! What is wrong with a program's text.
 
+ghost use Rattle.std.specs.Prelude.{◌≡◌};
+
 use sial_lexer::LexFault;
+use std::alloc::{AllocError, AllocFailed};
 
 /// What there is too many of.
 #[derive(Clone, Copy, Debug, PartialEq, Eq)]
@@ -30,4 +33,24 @@ pub enum ParseFault {
     /// More than 32 of `do`, `pardo` and `if` stand within each other.
     TooDeep { line: u32 },
     OutOfMemory,
+}
+
+impl From<AllocError> for ParseFault {
+    ghost use Rattle.sial_parser.specs.declared.fault.ParseFault.TheVariants.{OutOfMemory};
+
+    ghost from_gives = { λ _ e. e ≡ OutOfMemory };
+
+    fn from(_error: AllocError) -> ParseFault {
+        ParseFault::OutOfMemory
+    }
+}
+
+impl<T: Drop> From<AllocFailed<T>> for ParseFault {
+    ghost use Rattle.sial_parser.specs.declared.fault.ParseFault.TheVariants.{OutOfMemory};
+
+    ghost from_gives = { λ _ e. e ≡ OutOfMemory };
+
+    fn from(_failed: AllocFailed<T>) -> ParseFault {
+        ParseFault::OutOfMemory
+    }
 }
