@@ -1,6 +1,6 @@
--- The program that two texts are.
-use Rattle.std.proofs.Common.{◌≡◌, ℕ, List, [], ◌∷◌, map, length, true, nat_le, Option, Some, None, Result, Ok, Err, IfOk, IfSome, IfNone, option_map, refl, ap, ◌∙◌, sym, subst}
-use Rattle.std.specs.List.{list_all, All}
+-- The program that a tree and an input are.
+use Rattle.std.proofs.Common.{◌≡◌, ℕ, List, [], ◌∷◌, length, Bool, true, nat_le, Option, Some, None, Result, Ok, Err, IfOk, IfSome, IfNone, option_map, if◌then◌else◌, refl, ap, ◌∙◌, sym, subst}
+use Rattle.std.specs.List.{All}
 use Rattle.std.specs.Option.{option_and_then}
 use Rattle.std.proofs.lemmas.Bool.{leb-true, le-leb}
 use Rattle.std.proofs.lemmas.List.Elements.{All-nil, All-cons, All-head, All-tail}
@@ -10,20 +10,17 @@ use Rattle.sial_syntax.specs.declared.index.IndexDecl.{IndexDecl}
 use Rattle.sial_syntax.specs.declared.index.Kind.TheVariants.{Ao}
 use Rattle.sial_syntax.specs.declared.index.Range.{Range}
 use Rattle.sial_syntax.specs.declared.index.Range.TheVariants.{Segments}
+use Rattle.sial_parser.specs.Words.{IsTextOf}
+use Rattle.sial_parser.proofs.TextLemmas.{one_tree}
 use Rattle.sial_syntax.specs.Tree.{Tree}
 use Rattle.sip_driver.specs.declared.first.First.{First}
-use Rattle.sip_driver.specs.Built.{built, only_if}
 use Rattle.sip_driver.specs.First.{FirstProgram, seen, IsFirstProgram, IsRange}
-use Rattle.sip_driver.specs.Lines.{Line, IsTextOf, spelled, is_sound}
-use Rattle.sip_driver.specs.Profile.{IsFirst}
-use Rattle.sip_driver.specs.Reading.{first_in, tree_in, tree_of_lines, lengths_in, lines_in, is_range, are_ranges}
-use Rattle.sip_driver.proofs.FewLemmas.{only_some}
-use Rattle.sip_driver.proofs.InputLemmas.{InputBy, input_found, input_again}
-use Rattle.sip_driver.proofs.LineLemmas.{clean_line}
-use Rattle.sip_driver.proofs.RunsLemmas.{IsFineTree, fine_built}
-use Rattle.sip_driver.proofs.SoundLemmas.{first_of_two, last_of_two}
-use Rattle.sip_driver.proofs.TextLemmas.{AreClean, text_of_lines, lines_again}
-use Rattle.sip_driver.proofs.TreeLemmas.{BuiltBy, both, built_from, tree_again}
+use Rattle.sip_driver.specs.Profile.{IsFirst, IsFirstFor}
+use Rattle.sip_driver.specs.Prints.{IsNotFirst}
+use Rattle.sip_driver.specs.Reading.{first_of, first_with, is_first_tree, lengths_in, is_range, are_ranges, only_if}
+use Rattle.sip_driver.proofs.InputLemmas.{InputBy, input_found, input_again, if_some}
+use Rattle.sip_driver.proofs.ProfileLemmas.{tree_is, tree_again}
+use Rattle.sip_driver.proofs.SoundLemmas.{first_of_two, last_of_two, both, only_some}
 
 range_is : (n : ℕ) (r : Range) → is_range n r ≡ true → IsRange n r
 range_is n (Segments Ao (Number lo) (Number hi)) e = (leb-true 1 lo (first_of_two (nat_le 1 lo) (nat_le hi n) e), leb-true hi n (last_of_two (nat_le 1 lo) (nat_le hi n) e))
@@ -43,58 +40,72 @@ ranges_again n [] h = refl
 ranges_again n (i ∷ is) h =
     both (is_range n i.range) (are_ranges n is) (range_again n i.range (All-head (λ (i : IndexDecl). IsRange n i.range) i is h)) (ranges_again n is (All-tail (λ (i : IndexDecl). IsRange n i.range) i is h))
 
-found_with : (p i : List ℕ) (t : Tree) (lengths : List ℕ) → tree_in p ≡ Some t → lengths_in i ≡ Some lengths → are_ranges (length lengths) t.indices ≡ true
-    → IsFirst p i (record { program = t; lengths = lengths })
-found_with p i t lengths e f r =
-    let program : BuiltBy (lines_in p) t = built_from (lines_in p) t e in
+-- a program of this tree, with the input's lengths
+record FirstOf (t : Tree) (input : List ℕ) (path : FirstProgram) : Type 0 where
+  same : path.program ≡ t
+  first : IsFirstFor input path
+
+found_with : (t : Tree) (i lengths : List ℕ) → is_first_tree t ≡ true → lengths_in i ≡ Some lengths → are_ranges (length lengths) t.indices ≡ true
+    → FirstOf t i (record { program = t; lengths = lengths })
+found_with t i lengths e f r =
     let input : InputBy i lengths = input_found i lengths f in
     record {
-      program_is = record { lines = program.lines; spells = subst (IsTextOf p) (sym program.spells) (text_of_lines p); sound = program.sound; built = program.made };
-      input_is = record { numerals = input.numerals; spells = input.spells; sound = input.sound; lengths = input.are; some = input.some; few = input.few; within = input.within };
-      ranges = ranges_are (length lengths) t.indices r;
+      same = refl;
+      first = record {
+        tree_is = tree_is t e;
+        input_is = record { numerals = input.numerals; spells = input.spells; sound = input.sound; lengths = input.are; some = input.some; few = input.few; within = input.within };
+        ranges = ranges_are (length lengths) t.indices r;
+      };
     }
 
-found_in : (p i : List ℕ) (path : FirstProgram) → first_in p i ≡ Some path → IsFirst p i path
-found_in p i path e =
-    option_and_then_some _ (tree_in p) path e
-    (λ t a b. option_and_then_some _ (lengths_in i) path b
-    (λ lengths c d. only_some (are_ranges (length lengths) t.indices) (record { program = t; lengths = lengths }) path d (λ r k. subst (IsFirst p i) k (found_with p i t lengths a c r))))
+found_in : (t : Tree) (i : List ℕ) (path : FirstProgram) → first_of t i ≡ Some path → FirstOf t i path
+found_in t i path e =
+    if_some (is_first_tree t) (option_and_then (first_with t) (lengths_in i)) path e
+    (λ f g. option_and_then_some (first_with t) (lengths_in i) path g
+    (λ lengths c d. only_some (are_ranges (length lengths) t.indices) (record { program = t; lengths = lengths }) path d (λ r k. subst (FirstOf t i) k (found_with t i lengths f c r))))
 
-clean_lines : (lines : List Line) → list_all is_sound lines ≡ true → AreClean (map spelled lines)
-clean_lines [] s = tt
-clean_lines (line ∷ lines) s = (clean_line line (first_of_two (is_sound line) (list_all is_sound lines) s), clean_lines lines (last_of_two (is_sound line) (list_all is_sound lines) s))
-
-program_again : (text : List ℕ) (lines : List Line) (t : Tree) → IsTextOf text (map spelled lines) → list_all is_sound lines ≡ true → built lines ≡ Some t → tree_in text ≡ Some t
-program_again text [] t h s e = absurd cc
-program_again text (line ∷ lines) t h s e = ap tree_of_lines (lines_again text (spelled line) (map spelled lines) (clean_lines (line ∷ lines) s) h) ∙ tree_again (line ∷ lines) t s e
-
-again_in : (p i : List ℕ) (path : FirstProgram) → IsFirst p i path → first_in p i ≡ Some path
-again_in p i path h =
-    ap
-    (option_and_then (λ (t : Tree). option_and_then (λ lengths. only_if (are_ranges (length lengths) t.indices) (record { program = t; lengths = lengths })) (lengths_in i)))
-    (program_again p h.program_is.lines path.program h.program_is.spells h.program_is.sound h.program_is.built)
-    ∙ ap
-    (option_and_then (λ lengths. only_if (are_ranges (length lengths) path.program.indices) (record { program = path.program; lengths = lengths })))
-    (input_again i path h.input_is)
+again_in : (i : List ℕ) (path : FirstProgram) → IsFirstFor i path → first_of path.program i ≡ Some path
+again_in i path h =
+    ap (λ (b : Bool). if b then option_and_then (first_with path.program) (lengths_in i) else None) (tree_again path.program h.tree_is)
+    ∙ ap (option_and_then (first_with path.program)) (input_again i path h.input_is)
     ∙ ap (λ r. only_if r path) (ranges_again (length path.lengths) path.program.indices h.ranges)
+
+-- a tree of the first profile and an input for it are a program that can run
+pub runs_for : (i : List ℕ) (path : FirstProgram) → IsFirstFor i path → IsFirstProgram path
+runs_for i path h =
+    record { indices = h.ranges; arrays = h.tree_is.arrays; body = h.tree_is.body; lengths = h.input_is.within; few_lengths = h.input_is.few }
 
 -- two texts of the first profile are a program that can run
 pub runs_in : (p i : List ℕ) (path : FirstProgram) → IsFirst p i path → IsFirstProgram path
-runs_in p i path h =
-    let fine : IsFineTree path.program = fine_built h.program_is.lines path.program h.program_is.sound h.program_is.built in
-    record { indices = h.ranges; arrays = fine.arrays; body = fine.body; lengths = h.input_is.within; few_lengths = h.input_is.few }
+runs_in p i path h = runs_for i path h.first
 
-pub found_if_ok : {E : Type 0} (r : Result (Option First) E) (p i : List ℕ) → IfOk r (λ read. option_map seen read ≡ first_in p i) → IfOk r (λ read. IfSome read (λ first. IsFirst p i (seen first)))
-found_if_ok (Ok (Some first)) p i e = found_in p i (seen first) (sym e)
-found_if_ok (Ok None) p i e = tt
-found_if_ok (Err x) p i e = tt
+pub same_if_ok : {E : Type 0} (r : Result (Option First) E) (t : Tree) (i : List ℕ) → IfOk r (λ read. option_map seen read ≡ first_of t i) → IfOk r (λ read. IfSome read (λ first. (seen first).program ≡ t))
+same_if_ok (Ok (Some first)) t i e = (found_in t i (seen first) (sym e)).same
+same_if_ok (Ok None) t i e = tt
+same_if_ok (Err x) t i e = tt
 
-pub runs_if_ok : {E : Type 0} (r : Result (Option First) E) (p i : List ℕ) → IfOk r (λ read. option_map seen read ≡ first_in p i) → IfOk r (λ read. IfSome read (λ first. IsFirstProgram (seen first)))
-runs_if_ok (Ok (Some first)) p i e = runs_in p i (seen first) (found_in p i (seen first) (sym e))
-runs_if_ok (Ok None) p i e = tt
-runs_if_ok (Err x) p i e = tt
+pub found_if_ok : {E : Type 0} (r : Result (Option First) E) (t : Tree) (i : List ℕ) → IfOk r (λ read. option_map seen read ≡ first_of t i) → IfOk r (λ read. IfSome read (λ first. IsFirstFor i (seen first)))
+found_if_ok (Ok (Some first)) t i e = (found_in t i (seen first) (sym e)).first
+found_if_ok (Ok None) t i e = tt
+found_if_ok (Err x) t i e = tt
 
-pub only_if_ok : {E : Type 0} (r : Result (Option First) E) (p i : List ℕ) → IfOk r (λ read. option_map seen read ≡ first_in p i) → IfOk r (λ read. IfNone read ((path : FirstProgram) → IsFirst p i path → ⊥))
-only_if_ok (Ok (Some first)) p i e = tt
-only_if_ok (Ok None) p i e = λ path h. let k : first_in p i ≡ Some path = again_in p i path h in absurd cc
-only_if_ok (Err x) p i e = tt
+pub runs_if_ok : {E : Type 0} (r : Result (Option First) E) (t : Tree) (i : List ℕ) → IfOk r (λ read. option_map seen read ≡ first_of t i) → IfOk r (λ read. IfSome read (λ first. IsFirstProgram (seen first)))
+runs_if_ok (Ok (Some first)) t i e = runs_for i (seen first) (found_in t i (seen first) (sym e)).first
+runs_if_ok (Ok None) t i e = tt
+runs_if_ok (Err x) t i e = tt
+
+none_again : (t : Tree) (i : List ℕ) (path : FirstProgram) → None ≡ first_of t i → path.program ≡ t → IsFirstFor i path → ⊥
+none_again t i path e same h =
+    let k : first_of t i ≡ Some path = subst (λ (x : Tree). first_of x i ≡ Some path) same (again_in i path h) in
+    let no : ◌≡◌ {A = Option FirstProgram} None (Some path) = e ∙ k in
+    absurd cc
+
+pub only_if_ok : {E : Type 0} (r : Result (Option First) E) (t : Tree) (i : List ℕ) → IfOk r (λ read. option_map seen read ≡ first_of t i) → IfOk r (λ read. IfNone read ((path : FirstProgram) → path.program ≡ t → IsFirstFor i path → ⊥))
+only_if_ok (Ok (Some first)) t i e = tt
+only_if_ok (Ok None) t i e = λ path same h. none_again t i path e same h
+only_if_ok (Err x) t i e = tt
+
+-- a tree that is none of the first profile with an input isn't that of a text that is
+pub none_of : (t : Tree) (i : List ℕ) (read : Option First) → read ≡ None → IfNone read ((path : FirstProgram) → path.program ≡ t → IsFirstFor i path → ⊥) → (text : List ℕ) → IsTextOf text t → IsNotFirst text i
+none_of t i None e none text is = λ path h. none path (one_tree text path.program t h.program_is is) h.first
+none_of t i (Some first) e none text is = absurd cc

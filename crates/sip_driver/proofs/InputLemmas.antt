@@ -11,17 +11,13 @@ use Rattle.std.proofs.lemmas.List.Splits.{slice_split-cons_yes, join_with_byte-s
 use Rattle.std.proofs.lemmas.Option.{option_and_then_some}
 use Rattle.std.proofs.lemmas.Slice.Eq.{bytes_eq-Decides}
 use Rattle.sial_syntax.specs.Names.{is_digit}
-use Rattle.sip_driver.specs.Built.{only_if}
 use Rattle.sip_driver.specs.First.{FirstProgram}
-use Rattle.sip_driver.specs.Lines.{IsTextOf, is_numeral, value_of, has_any}
+use Rattle.sip_driver.specs.Lines.{AreLinesOf, is_numeral, value_of, has_any}
 use Rattle.sip_driver.specs.Profile.{IsInput, input_line}
-use Rattle.sip_driver.specs.Reading.{number_in, length_in, lengths_from, lengths_of_words, lengths_of_line, lengths_of_lines, lengths_in, lines_in}
-use Rattle.sip_driver.proofs.FewLemmas.{only_some}
-use Rattle.sip_driver.proofs.LineLemmas.{IsClean, is_within}
+use Rattle.sip_driver.specs.Reading.{number_in, length_in, lengths_from, lengths_of_words, lengths_of_line, lengths_of_lines, lengths_in, lines_in, only_if}
 use Rattle.sip_driver.proofs.NumeralLemmas.{numeral_found, numeral_is}
-use Rattle.sip_driver.proofs.SoundLemmas.{first_of_two, last_of_two, second}
-use Rattle.sip_driver.proofs.TextLemmas.{text_of_lines, lines_again, one_part, next_part}
-use Rattle.sip_driver.proofs.TreeLemmas.{both}
+use Rattle.sip_driver.proofs.SoundLemmas.{first_of_two, last_of_two, second, both, only_some}
+use Rattle.sip_driver.proofs.TextLemmas.{IsClean, is_within, text_of_lines, lines_again, one_part, next_part}
 
 -- a length that a segment may have
 abbrev InRange : ℕ → Type 0
@@ -103,7 +99,8 @@ split_spaced : (ns : List (List ℕ)) → list_all is_numeral ns ≡ true → sl
 split_spaced [] e = refl
 split_spaced (n ∷ ns) e = slice_split-cons_yes (λ b. b == 32) 32 (n ++ spaced ns) refl ∙ ap (λ l. [] ∷ l) (split_behind n ns e)
 
-if_some : {X P : Type 0} (t : Bool) (o : Option X) (x : X) → (if t then o else None) ≡ Some x → (t ≡ true → o ≡ Some x → P) → P
+-- Something where a test holds, else nothing.
+pub if_some : {X P : Type 0} (t : Bool) (o : Option X) (x : X) → (if t then o else None) ≡ Some x → (t ≡ true → o ≡ Some x → P) → P
 if_some true o x e go = go refl e
 if_some false o x e go = absurd cc
 
@@ -131,14 +128,14 @@ words_read ((b ∷ bs) ∷ ns) lengths e = absurd cc
 -- the lengths of an input's text
 pub record InputBy (text : List ℕ) (lengths : List ℕ) : Type 0 where
   pub numerals : List (List ℕ)
-  pub spells : IsTextOf text (input_line numerals ∷ [])
+  pub spells : AreLinesOf text (input_line numerals ∷ [])
   pub sound : list_all is_numeral numerals ≡ true
   pub are : lengths ≡ map value_of numerals
   pub some : 1 ≤ length lengths
   pub few : length lengths ≤ 4096
   pub within : All InRange lengths
 
-line_read : (text line : List ℕ) (lengths : List ℕ) → IsTextOf text (line ∷ []) → lengths_of_line line ≡ Some lengths → InputBy text lengths
+line_read : (text line : List ℕ) (lengths : List ℕ) → AreLinesOf text (line ∷ []) → lengths_of_line line ≡ Some lengths → InputBy text lengths
 line_read text line lengths h e =
     if_some (bytes_eq (take 11 line) (codes "segments ao")) (lengths_of_words (slice_split (λ b. b == 32) (drop 11 line))) lengths e
     (λ t q.
@@ -150,7 +147,7 @@ line_read text line lengths h e =
     let count : length lengths ≡ length words.numerals = ap length read.are ∙ length-map words.numerals value_of in
     record {
       numerals = words.numerals;
-      spells = subst (λ l. IsTextOf text (l ∷ [])) whole h;
+      spells = subst (λ l. AreLinesOf text (l ∷ [])) whole h;
       sound = read.sound;
       are = read.are;
       some = subst (λ n. 1 ≤ n) (sym count) words.some;
@@ -158,7 +155,7 @@ line_read text line lengths h e =
       within = subst (All InRange) (sym read.are) read.within;
     })
 
-lines_read : (text : List ℕ) (lines : List (List ℕ)) (lengths : List ℕ) → IsTextOf text lines → lengths_of_lines lines ≡ Some lengths → InputBy text lengths
+lines_read : (text : List ℕ) (lines : List (List ℕ)) (lengths : List ℕ) → AreLinesOf text lines → lengths_of_lines lines ≡ Some lengths → InputBy text lengths
 lines_read text [] lengths h e = absurd cc
 lines_read text (line ∷ []) lengths h e = line_read text line lengths h e
 lines_read text (line ∷ other ∷ more) lengths h e = absurd cc

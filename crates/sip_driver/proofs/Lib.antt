@@ -16,15 +16,10 @@ mod TopLemmas
 mod WroteLemmas
 mod ReadingLemmas
 mod NumeralLemmas
-mod PlaceLemmas
-mod FewLemmas
 mod SoundLemmas
-mod FurtherLemmas
-mod CutLemmas
-mod LineLemmas
 mod FirstLemmas
 mod TextLemmas
-mod TreeLemmas
 mod InputLemmas
-mod RunsLemmas
 mod ThroughLemmas
+mod ProfileLemmas
+mod SyntaxLemmas

@@ -4,9 +4,8 @@ use Rattle.std.specs.List.{fold, list_all}
 use Rattle.std.specs.Option.{option_and_then}
 use Rattle.std.proofs.lemmas.Bool.{lt-ltb, le-ltb, ltb-true, ltb-false}
 use Rattle.sial_syntax.specs.Names.{is_digit}
-use Rattle.sip_driver.specs.Built.{only_if}
 use Rattle.sip_driver.specs.Lines.{is_numeral, value_of}
-use Rattle.sip_driver.specs.Reading.{number_from, number_in}
+use Rattle.sip_driver.specs.Reading.{number_from, number_in, only_if}
 
 -- one more digit
 abbrev more : ℕ → ℕ → ℕ

@@ -145,8 +145,8 @@ mutual
       quiet_law path (ran_form path (Assign (target.Block t) Set (One (operand.Number n))) m) lines _
       (subst
       (λ (at : List ℕ). form_meaning Present (setting_of path) call line (Assign (target.Block (record { array = t.array; at = at })) Set (One (operand.Number n))) (state_of path m lines) ≡ Went (state_of path (ran_form path (Assign (target.Block (record { array = t.array; at = at })) Set (One (operand.Number n))) m) lines))
-      (sym (at-is path (Some i) t i refl form_is.0))
-      (fill-law path call line m lines t.array i n (there path m (Some i) t i refl is form_is.0 fits within)))
+      (sym (at-is path (Some i) t i refl form_is))
+      (fill-law path call line m lines t.array i n (there path m (Some i) t i refl is form_is fits within)))
   form_law path call None line (Assign (target.Block t) Add (One (operand.Block b))) m lines is form_is fits within = absurd cc
   form_law path call (Some i) line (Assign (target.Block t) Add (One (operand.Block b))) m lines is form_is fits within =
       quiet_law path (ran_form path (Assign (target.Block t) Add (One (operand.Block b))) m) lines _
@@ -160,7 +160,7 @@ mutual
   form_law path call loop line (Assign (target.Scalar s) Set (One (operand.Number n))) m lines is form_is fits within =
       quiet_law path (ran_form path (Assign (target.Scalar s) Set (One (operand.Number n))) m) lines _ (set-law path call line m lines s n)
   form_law path call loop line (Assign (target.Scalar s) Add (One (operand.Number n))) m lines is form_is fits within =
-      quiet_law path (ran_form path (Assign (target.Scalar s) Add (One (operand.Number n))) m) lines _ (increase-law path call line m lines s n form_is.0 fits)
+      quiet_law path (ran_form path (Assign (target.Scalar s) Add (One (operand.Number n))) m) lines _ (increase-law path call line m lines s n form_is fits)
   form_law path call None line (Assign (target.Scalar s) Set (Two (operand.Block a) Times (operand.Block b))) m lines is form_is fits within = absurd cc
   form_law path call (Some i) line (Assign (target.Scalar s) Set (Two (operand.Block a) Times (operand.Block b))) m lines is form_is fits within =
       quiet_law path (ran_form path (Assign (target.Scalar s) Set (Two (operand.Block a) Times (operand.Block b))) m) lines _

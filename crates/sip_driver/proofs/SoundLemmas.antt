@@ -1,5 +1,6 @@
--- What holds of the parts of a sound line.
-use Rattle.std.proofs.Common.{◌≡◌, Bool, true, false, ◌&&◌}
+-- Tests that hold together.
+use Rattle.std.proofs.Common.{◌≡◌, Bool, true, false, ◌&&◌, Some, refl, ap, ◌∙◌}
+use Rattle.sip_driver.specs.Reading.{only_if}
 
 -- The second of two tests that hold.
 pub last_of_two : (a b : Bool) → (a && b) ≡ true → b ≡ true
@@ -11,10 +12,15 @@ pub first_of_two : (a b : Bool) → (a && b) ≡ true → a ≡ true
 first_of_two true b e = cc
 first_of_two false b e = cc
 
--- The third of three.
-pub third : (a b c : Bool) → (a && (b && c)) ≡ true → c ≡ true
-third a b c e = last_of_two b c (last_of_two a (b && c) e)
-
 -- The second of three.
 pub second : (a b c : Bool) → (a && (b && c)) ≡ true → b ≡ true
 second a b c e = first_of_two b c (last_of_two a (b && c) e)
+
+-- Two tests that hold.
+pub both : (a b : Bool) → a ≡ true → b ≡ true → (a && b) ≡ true
+both a b e f = ap (λ t. t && b) e ∙ f
+
+-- Something where a test holds: the test holds, and it is that.
+pub only_some : {X P : Type 0} (t : Bool) (x y : X) → only_if t x ≡ Some y → (t ≡ true → x ≡ y → P) → P
+only_some true x y e go = go refl (cc)
+only_some false x y e go = absurd cc

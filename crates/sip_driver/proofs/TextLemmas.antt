@@ -2,14 +2,22 @@
 use Rattle.std.proofs.Common.{◌≡◌, ℕ, List, [], ◌∷◌, ◌++◌, Bool, true, false, not, ◌==◌, if◌then◌else◌, ◌⊎◌, inl, inr, append_assoc, refl, ap, ◌∙◌, sym, subst}
 use Rattle.std.specs.List.{slice_split, onto_first, list_all, join_with_byte}
 use Rattle.std.proofs.lemmas.List.Splits.{slice_split-cons_yes, slice_split-cons_no, join_with_byte-slice_split}
-use Rattle.sip_driver.specs.Lines.{IsTextOf}
+use Rattle.sip_driver.specs.Lines.{AreLinesOf, has_any}
 use Rattle.sip_driver.specs.Reading.{lines_in, without_empty_last}
-use Rattle.sip_driver.proofs.LineLemmas.{IsClean}
 use Rattle.sip_driver.proofs.ReadingLemmas.{dropped_empty}
 use Rattle.sip_driver.proofs.SoundLemmas.{first_of_two, last_of_two}
 
 abbrev is_end : ℕ → Bool
 is_end = λ b. b == 10
+
+-- a byte that ends no line
+abbrev pub is_within : ℕ → Bool
+is_within b = not (b == 10)
+
+-- a text with a byte, and no line end
+pub record IsClean (text : List ℕ) : Type 0 where
+  pub some : has_any text ≡ true
+  pub within : list_all is_within text ≡ true
 
 -- whether there is a line
 abbrev has_line : List (List ℕ) → Bool
@@ -32,12 +40,12 @@ ends_join ([] ∷ []) = inl refl
 ends_join ((b ∷ bs) ∷ []) = inl refl
 ends_join (x ∷ y ∷ more) = ends_more x (without_empty_last (y ∷ more)) (join_with_byte 10 (y ∷ more)) (ends_join (y ∷ more))
 
-is_text : (text : List ℕ) (lines : List (List ℕ)) → Ends text lines → IsTextOf text lines
+is_text : (text : List ℕ) (lines : List (List ℕ)) → Ends text lines → AreLinesOf text lines
 is_text text lines (inl e) = inl e
 is_text text lines (inr h) = inr h.1
 
 -- A text is the text of its lines.
-pub text_of_lines : (text : List ℕ) → IsTextOf text (lines_in text)
+pub text_of_lines : (text : List ℕ) → AreLinesOf text (lines_in text)
 text_of_lines text =
     is_text text (lines_in text) (subst (λ t. Ends t (lines_in text)) (join_with_byte-slice_split 10 text) (ends_join (slice_split is_end text)))
 
@@ -80,6 +88,6 @@ kept_all x [] h = ap (λ t. if t then x ∷ [] else []) h.0.some
 kept_all x (y ∷ ys) h = ap (λ l. x ∷ l) (kept_all y ys h.1)
 
 -- The text of clean lines has those lines.
-pub lines_again : (text x : List ℕ) (xs : List (List ℕ)) → AreClean (x ∷ xs) → IsTextOf text (x ∷ xs) → lines_in text ≡ x ∷ xs
+pub lines_again : (text x : List ℕ) (xs : List (List ℕ)) → AreClean (x ∷ xs) → AreLinesOf text (x ∷ xs) → lines_in text ≡ x ∷ xs
 lines_again text x xs h (inl e) = ap lines_in e ∙ ap without_empty_last (split_join x xs h) ∙ kept_all x xs h
 lines_again text x xs h (inr e) = ap lines_in e ∙ ap without_empty_last (split_ended x xs h) ∙ dropped_empty (x ∷ xs)

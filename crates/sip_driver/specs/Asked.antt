@@ -3,6 +3,7 @@ use Rattle.std.specs.Prelude.{ℕ, List, [], ◌∷◌, Option, Some, None, Stri
 use Rattle.std.specs.Str.{bytes_eq}
 use Rattle.std.specs.declared.alloc.Global.{Global}
 use Rattle.sip_files.specs.Loading.{Wanted, wanted}
+use Rattle.sip_driver.specs.Loads.{Reads, ProgramText, AnyText}
 
 -- the files that the words name
 pub record Names : Type 0 where
@@ -32,9 +33,18 @@ most_program = 16777216
 abbrev pub most_input : ℕ
 most_input = 1048576
 
+-- the file of the program
+abbrev pub program_of : Names → Wanted
+program_of names = wanted names.program most_program
+
+-- the file of the input
+abbrev pub input_of : Names → Wanted
+input_of names = wanted names.input most_input
+
 -- the files that `run` reads, in order
-abbrev pub files_of : Names → List Wanted
-files_of names = wanted names.program most_program ∷ wanted names.input most_input ∷ []
+abbrev pub files_of : Names → List Reads
+files_of names =
+    record { file = program_of names; content = ProgramText } ∷ record { file = input_of names; content = AnyText } ∷ []
 
 -- a fact about the files that the words name, which holds of no words that name none
 abbrev pub ForNames : Option Names → (Names → Type 0) → Type 0

@@ -1,5 +1,5 @@
 -- Programs of the first profile: which trees they are, and the setting that the sequential meaning has for them.
-use Rattle.std.specs.Prelude.{◌≡◌, ℕ, ◌+◌, ◌-◌, ◌^◌, ◌<◌, ◌≤◌, List, [], ◌∷◌, ◌++◌, map, length, replicate, flat_map, Option, Some, None, slice_index_or, if◌then◌else◌, nat_lt, All}
+use Rattle.std.specs.Prelude.{◌≡◌, ℕ, ◌+◌, ◌-◌, ◌<◌, ◌≤◌, List, [], ◌∷◌, ◌++◌, map, length, replicate, flat_map, Option, Some, None, slice_index_or, if◌then◌else◌, nat_lt, All}
 use Rattle.sial_syntax.specs.declared.array.ArrayDecl.{ArrayDecl}
 use Rattle.sial_syntax.specs.declared.array.ArrayKind.TheVariants.{Static}
 use Rattle.sial_syntax.specs.declared.classes.ScalarClass.TheVariants.{Replicated}
@@ -112,19 +112,15 @@ pub record IsBlock (p : Tree) (loop : Option ℕ) (block : BlockRef) : Type 0 wh
 abbrev pub IsScalar : Tree → ℕ → Type 0
 IsScalar p scalar = scalar < length p.scalars
 
--- a number that fits 64 bits
-abbrev pub IsNumber : ℕ → Type 0
-IsNumber n = n < 2 ^ 64
-
 abbrev mutual
   -- a statement of the first profile, in the loop over an index or outside: no loop stands in a loop
   pub IsForm : Tree → Option ℕ → Plain → Type 0
   IsForm p None (Do index body) = (index < length p.indices) × IsBody p (Some index) body
   IsForm p (Some outer) (Do index body) = ⊥
-  IsForm p loop (Assign (target.Block t) Set (One (operand.Number n))) = IsBlock p loop t × IsNumber n
+  IsForm p loop (Assign (target.Block t) Set (One (operand.Number n))) = IsBlock p loop t
   IsForm p loop (Assign (target.Block t) Add (One (operand.Block b))) = IsBlock p loop t × IsBlock p loop b
-  IsForm p loop (Assign (target.Scalar s) Set (One (operand.Number n))) = IsScalar p s × IsNumber n
-  IsForm p loop (Assign (target.Scalar s) Add (One (operand.Number n))) = IsScalar p s × IsNumber n
+  IsForm p loop (Assign (target.Scalar s) Set (One (operand.Number n))) = IsScalar p s
+  IsForm p loop (Assign (target.Scalar s) Add (One (operand.Number n))) = IsScalar p s
   IsForm p loop (Assign (target.Scalar s) Set (Two (operand.Block a) Times (operand.Block b))) = IsScalar p s × IsBlock p loop a × IsBlock p loop b
   IsForm p loop (PrintScalar s) = IsScalar p s
   IsForm p loop _ = ⊥

@@ -6,12 +6,15 @@ use Rattle.std.specs.Prelude.{◌≡◌, ◌↔◌, ℕ, ◌⊎◌, List, [], �
 use Rattle.std.specs.declared.alloc.Global.{Global}
 use Rattle.sip_files.specs.Files.{Folder, Rose}
 use Rattle.sip_files.specs.Loading.{LoadOf}
-use Rattle.sip_driver.specs.Asked.{Names, asked, files_of, ForNames}
-use Rattle.sip_driver.specs.Loads.{AreRead, IsFirstUnread, RanOut, IsAnyUnreadable}
+use Rattle.sial_parser.specs.declared.fault.ParseFault.{ParseFault}
+use Rattle.sip_driver.specs.Asked.{Names, asked, program_of, input_of, files_of, ForNames}
+use Rattle.sip_driver.specs.Loads.{AreRead, IsFirstUnread, RanOut, IsUnreadable}
+use Rattle.sip_driver.specs.Performed.{IsFaulty}
 use Rattle.sip_driver.specs.Prints.{Prints, PrintsPart, IsNotFirst}
-use Rattle.sip_driver.specs.Says.{read_line}
+use Rattle.sip_driver.specs.Says.{read_line, syntax_line, first_line}
 
--- the two files were read, the program and then its input, nothing else was loaded, and their texts have this property
+-- the two files were read, the program and then its input, nothing else was loaded, that of the program holds a program's text, and
+-- both texts have this property
 abbrev pub ForTexts : {F : Type 0} → LoadOf F → (old new : F) → Names → (List ℕ → List ℕ → Type 0) → Type 0
 ForTexts load old new names fact =
     (program : List ℕ) × (input : List ℕ) × AreRead load old new (files_of names) (program ∷ input ∷ []) × fact program input
@@ -30,19 +33,28 @@ Done words load old new written before after = Texts words load old new (Prints 
 abbrev pub IsUsage : (status : ℕ) → List (String Global) → Type 0
 IsUsage status words = (status ≡ 1) ↔ (asked words ≡ None)
 
--- 2: the line names the first file that wasn't read, behind which none was loaded
+-- 2: the line names the first file that wasn't read, behind which none was loaded; the input is loaded only behind a program's text
 abbrev pub Unread : {F : Type 0} → List (String Global) → LoadOf F → (old new : F) → (says : List ℕ → Type 0) → Type 0
 Unread words load old new says =
     ForNames (asked words) (λ names. (name : List ℕ) × IsFirstUnread load old new (files_of names) name × says (read_line name))
 
--- 2, or 13 for want of memory: wherever a file that is told can't be read
-abbrev pub RefusesUnreadable : (status : ℕ) → List (String Global) → Option Folder → Type 0
-RefusesUnreadable status words told =
-    (names : Names) → asked words ≡ Some names → IsAnyUnreadable told (files_of names) → (status ≡ 2) ⊎ (status ≡ 13)
+-- 3: the program was read, and nothing else was loaded; its text has a fault, which the line tells with its own line
+abbrev pub Unparsed : {F : Type 0} → List (String Global) → LoadOf F → (old new : F) → (says : List ℕ → Type 0) → Type 0
+Unparsed words load old new says =
+    ForNames (asked words) (λ names. (fault : ParseFault) × IsFaulty load old new names fault × says (syntax_line fault))
 
--- 3: both files were read, and they are none of the first profile
-abbrev pub NotFirst : {F : Type 0} → List (String Global) → LoadOf F → (old new : F) → Type 0
-NotFirst words load old new = Texts words load old new IsNotFirst
+-- 3 as well: both files were read, the first holds a program's text, and they are none of the first profile
+abbrev pub NotFirst : {F : Type 0} → List (String Global) → LoadOf F → (old new : F) → (says : List ℕ → Type 0) → Type 0
+NotFirst words load old new says = Texts words load old new IsNotFirst × says first_line
+
+-- where a file that is told can't be read: the program's gives 2, and the input's gives 2 unless the program's text has a fault;
+-- or 13 for want of memory
+abbrev pub RefusesUnreadable : (status : ℕ) → List (String Global) → Option Folder → (unparsed : Type 0) → Type 0
+RefusesUnreadable status words told unparsed =
+    (names : Names)
+    → asked words ≡ Some names
+    → (IsUnreadable told (program_of names) → (status ≡ 2) ⊎ (status ≡ 13))
+    × (IsUnreadable told (input_of names) → (status ≡ 2) ⊎ ((status ≡ 13) ⊎ unparsed))
 
 -- 10: both files were read, and the output, whose count of faults rose, gained a first part of the lines
 abbrev pub NotWritten :

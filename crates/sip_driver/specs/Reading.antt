@@ -1,17 +1,33 @@
--- How texts are read: step by step, each step exact.
-use Rattle.std.specs.Prelude.{ℕ, ◌+◌, ◌-◌, ◌*◌, ◌^◌, List, [], ◌∷◌, ◌++◌, filter, length, take, drop, Bool, false, ◌==◌, ◌&&◌, not, nat_lt, nat_le, codes, Option, Some, None, if◌then◌else◌, slice_index_or, option_and_then}
+-- How an input is read, and a tree looked through: step by step, each step exact.
+use Rattle.std.specs.Prelude.{ℕ, ◌+◌, ◌-◌, ◌*◌, ◌^◌, List, [], ◌∷◌, ◌++◌, length, take, drop, Bool, true, false, ◌==◌, ◌&&◌, nat_lt, nat_le, codes, Option, Some, None, if◌then◌else◌, option_and_then}
 use Rattle.std.specs.List.{slice_split, list_all}
 use Rattle.std.specs.Str.{bytes_eq}
-use Rattle.sial_syntax.specs.Names.{is_name_byte, is_digit}
-use Rattle.sial_syntax.specs.Tree.{Tree}
+use Rattle.sial_syntax.specs.Names.{is_digit}
+use Rattle.sial_syntax.specs.Tree.{Tree, Block, End, Then, Plain, Do, Assign, PrintScalar}
+use Rattle.sial_syntax.specs.declared.array.ArrayDecl.{ArrayDecl}
+use Rattle.sial_syntax.specs.declared.array.ArrayKind.{ArrayKind}
+use Rattle.sial_syntax.specs.declared.array.ArrayKind.TheVariants.{Static}
 use Rattle.sial_syntax.specs.declared.index.Bound.TheVariants.{Number}
 use Rattle.sial_syntax.specs.declared.index.IndexDecl.{IndexDecl}
 use Rattle.sial_syntax.specs.declared.index.Kind.TheVariants.{Ao}
 use Rattle.sial_syntax.specs.declared.index.Range.{Range}
 use Rattle.sial_syntax.specs.declared.index.Range.TheVariants.{Segments}
-use Rattle.sip_driver.specs.Built.{Building, begun, one_more, ended, only_if}
-use Rattle.sip_driver.specs.First.{FirstProgram}
-use Rattle.sip_driver.specs.Lines.{Line, Head, Index, Array, Scalar, Loop, LoopEnd, Fill, AddBlock, SetScalar, AddNumber, Contract, Print, Tail, spelled, is_sound, has_any}
+use Rattle.sial_syntax.specs.declared.operand.Bin.TheVariants.{Times}
+use Rattle.sial_syntax.specs.declared.operand.BlockRef.{BlockRef}
+use Rattle.sial_syntax.specs.declared.operand.Op.{Op}
+use Rattle.sial_syntax.specs.declared.operand.Op.TheVariants.{Set, Add}
+use Rattle.sial_syntax.specs.declared.operand.Operand.TheVariants as operand
+use Rattle.sial_syntax.specs.declared.operand.Right.{Right}
+use Rattle.sial_syntax.specs.declared.operand.Right.TheVariants.{One, Two}
+use Rattle.sial_syntax.specs.declared.operand.Target.{Target}
+use Rattle.sial_syntax.specs.declared.operand.Target.TheVariants as target
+use Rattle.sip_driver.specs.First.{FirstProgram, dims_in}
+use Rattle.sip_driver.specs.Lines.{has_any}
+
+-- something, where a test holds
+abbrev pub only_if : {X : Type 0} → Bool → X → Option X
+only_if true x = Some x
+only_if false x = None
 
 -- a number with one more digit, where that fits 64 bits
 abbrev pub number_after : (value digit : ℕ) → Option ℕ
@@ -26,65 +42,6 @@ number_from value (digit ∷ digits) = option_and_then (λ more. number_from mor
 abbrev pub number_in : List ℕ → Option ℕ
 number_in digits = if has_any digits then number_from 0 digits else None
 
--- whether a byte parts the words of a line
-abbrev pub parts_words : ℕ → Bool
-parts_words b = not (is_name_byte b)
-
--- the words of a line, empty ones among them
-abbrev pub words_in : List ℕ → List (List ℕ)
-words_in text = slice_split parts_words text
-
--- what stands between the words of a line
-abbrev pub marks_in : List ℕ → List ℕ
-marks_in text = filter parts_words text
-
--- the word at a place
-abbrev pub word_at : List (List ℕ) → ℕ → List ℕ
-word_at words k = slice_index_or words k []
-
--- a line of a keyword and a name
-abbrev pub two_words : (keyword name : List ℕ) → Option Line
-two_words keyword name =
-    if bytes_eq keyword (codes "sial") then Some (Head name) else
-    if bytes_eq keyword (codes "scalar") then Some (Scalar name) else
-    if bytes_eq keyword (codes "do") then Some (Loop name) else
-    if bytes_eq keyword (codes "enddo") then Some (LoopEnd name) else
-    if bytes_eq keyword (codes "endsial") then Some (Tail name) else None
-
--- a declaration of an index or an array, or a printed scalar, by what stands between the words
-abbrev pub line_with_keyword : (marks : List ℕ) → (words : List (List ℕ)) → Option Line
-line_with_keyword marks words =
-    if bytes_eq marks (codes " ") then two_words (word_at words 0) (word_at words 1) else
-    if bytes_eq marks (codes "  = , ") then Some (Index (word_at words 1) (word_at words 4) (word_at words 6)) else
-    if bytes_eq marks (codes " ()") then Some (Array (word_at words 1) (word_at words 2)) else
-    if bytes_eq marks (codes "  ") then Some (Print (word_at words 2)) else None
-
--- an assignment, by what stands between the words
-abbrev pub assignment : (marks : List ℕ) → (words : List (List ℕ)) → Option Line
-assignment marks words =
-    if bytes_eq marks (codes "() = ") then Some (Fill (word_at words 0) (word_at words 1) (word_at words 5)) else
-    if bytes_eq marks (codes "() += ()") then Some (AddBlock (word_at words 0) (word_at words 1) (word_at words 6)) else
-    if bytes_eq marks (codes " = ") then Some (SetScalar (word_at words 0) (word_at words 3)) else
-    if bytes_eq marks (codes " += ") then Some (AddNumber (word_at words 0) (word_at words 4)) else
-    if bytes_eq marks (codes " = () * ()") then Some (Contract (word_at words 0) (word_at words 3) (word_at words 8) (word_at words 4)) else None
-
--- the one or the other
-abbrev pub either : Option Line → Option Line → Option Line
-either (Some line) other = Some line
-either None other = other
-
--- the line that a text may be, by its words and what stands between them
-abbrev pub line_like : (marks : List ℕ) → (words : List (List ℕ)) → Option Line
-line_like marks words = either (line_with_keyword marks words) (assignment marks words)
-
--- a line, where it is sound and the text is its spelling
-abbrev pub if_spelled : (text : List ℕ) → Line → Option Line
-if_spelled text line = only_if (is_sound line && bytes_eq (spelled line) text) line
-
--- the line that a text is
-abbrev pub line_of : (text : List ℕ) → Option Line
-line_of text = option_and_then (if_spelled text) (line_like (marks_in text) (words_in text))
-
 -- the lines without the last, if that is empty
 abbrev pub without_empty_last : List (List ℕ) → List (List ℕ)
 without_empty_last [] = []
@@ -94,40 +51,6 @@ without_empty_last (x ∷ y ∷ more) = x ∷ without_empty_last (y ∷ more)
 -- the lines of a text
 abbrev pub lines_in : (text : List ℕ) → List (List ℕ)
 lines_in text = without_empty_last (slice_split (λ b. b == 10) text)
-
--- a program with one more line
-abbrev pub with_text : Building → (text : List ℕ) → Option Building
-with_text b text = option_and_then (one_more b) (line_of text)
-
--- a program with further lines
-abbrev pub with_texts : List (List ℕ) → Building → Option Building
-with_texts [] b = Some b
-with_texts (x ∷ xs) b = option_and_then (with_texts xs) (with_text b x)
-
--- the program that a first line begins
-abbrev pub begun_by : Line → Option Building
-begun_by (Head name) = Some (begun name)
-begun_by _ = None
-
--- the tree that a last line ends
-abbrev pub ended_by : Building → Line → Option Tree
-ended_by b (Tail name) = ended b name
-ended_by b _ = None
-
--- the tree of a program with further lines, the last of them its end
-abbrev pub tree_from : Building → List (List ℕ) → Option Tree
-tree_from b [] = None
-tree_from b (x ∷ []) = option_and_then (ended_by b) (line_of x)
-tree_from b (x ∷ y ∷ more) = option_and_then (λ c. tree_from c (y ∷ more)) (with_text b x)
-
--- the tree that lines make
-abbrev pub tree_of_lines : List (List ℕ) → Option Tree
-tree_of_lines [] = None
-tree_of_lines (x ∷ xs) = option_and_then (λ b. tree_from b xs) (option_and_then begun_by (line_of x))
-
--- the tree of a text
-abbrev pub tree_in : (text : List ℕ) → Option Tree
-tree_in text = tree_of_lines (lines_in text)
 
 -- the length of a segment that digits spell
 abbrev pub length_in : (digits : List ℕ) → Option ℕ
@@ -168,9 +91,85 @@ is_range segments _ = false
 abbrev pub are_ranges : (segments : ℕ) → List IndexDecl → Bool
 are_ranges segments indices = list_all (λ (i : IndexDecl). is_range segments i.range) indices
 
--- the program that two texts are
-abbrev pub first_in : (program input : List ℕ) → Option FirstProgram
-first_in program input =
-    option_and_then
-    (λ t. option_and_then (λ lengths. only_if (are_ranges (length lengths) t.indices) (record { program = t; lengths = lengths })) (lengths_in input))
-    (tree_in program)
+-- whether there is one number, below this one
+abbrev pub is_one_below : ℕ → List ℕ → Bool
+is_one_below most (x ∷ []) = nat_lt x most
+is_one_below most _ = false
+
+-- whether a kind is that of static arrays
+abbrev pub is_static : ArrayKind → Bool
+is_static Static = true
+is_static _ = false
+
+-- whether an array is static and has one index
+abbrev pub is_array : (indices : ℕ) → ArrayDecl → Bool
+is_array indices array = is_static array.kind && is_one_below indices array.dims
+
+-- whether an index is the only one
+abbrev pub is_only : List ℕ → ℕ → Bool
+is_only (x ∷ []) index = x == index
+is_only _ index = false
+
+-- whether a block stands in the loop over its only index, which is its array's
+abbrev pub is_block : Tree → Option ℕ → BlockRef → Bool
+is_block p None block = false
+is_block p (Some index) block = is_only block.at index && is_only (dims_in p block.array) index
+
+-- whether a scalar is there
+abbrev pub is_scalar : Tree → ℕ → Bool
+is_scalar p scalar = nat_lt scalar (length p.scalars)
+
+-- whether an assignment to a block is of the profile
+abbrev pub is_block_assignment : Tree → Option ℕ → BlockRef → Op → Right → Bool
+is_block_assignment p loop block Set (One (operand.Number n)) = is_block p loop block
+is_block_assignment p loop block Add (One (operand.Block other)) = is_block p loop block && is_block p loop other
+is_block_assignment p loop block _ _ = false
+
+-- whether an assignment to a scalar is of the profile
+abbrev pub is_scalar_assignment : Tree → Option ℕ → ℕ → Op → Right → Bool
+is_scalar_assignment p loop scalar Set (One (operand.Number n)) = is_scalar p scalar
+is_scalar_assignment p loop scalar Add (One (operand.Number n)) = is_scalar p scalar
+is_scalar_assignment p loop scalar Set (Two (operand.Block a) Times (operand.Block b)) = is_scalar p scalar && (is_block p loop a && is_block p loop b)
+is_scalar_assignment p loop scalar _ _ = false
+
+-- whether an assignment is of the profile
+abbrev pub is_assignment : Tree → Option ℕ → Target → Op → Right → Bool
+is_assignment p loop (target.Block block) op right = is_block_assignment p loop block op right
+is_assignment p loop (target.Scalar scalar) op right = is_scalar_assignment p loop scalar op right
+
+-- whether a statement that is no loop is of the profile, in the loop over an index or outside
+abbrev pub is_simple : Tree → Option ℕ → Plain → Bool
+is_simple p loop (Assign target op right) = is_assignment p loop target op right
+is_simple p loop (PrintScalar scalar) = is_scalar p scalar
+is_simple p loop _ = false
+
+-- whether all statements are so
+abbrev pub are_simple : Tree → Option ℕ → Block → Bool
+are_simple p loop End = true
+are_simple p loop (Then line form rest) = is_simple p loop form && are_simple p loop rest
+
+-- whether a statement outside of loops is of the profile
+abbrev pub is_form : Tree → Plain → Bool
+is_form p (Do index body) = nat_lt index (length p.indices) && are_simple p (Some index) body
+is_form p form = is_simple p None form
+
+-- whether all statements are so
+abbrev pub are_forms : Tree → Block → Bool
+are_forms p End = true
+are_forms p (Then line form rest) = is_form p form && are_forms p rest
+
+-- whether at most so many of each thing are declared, and no procedure
+abbrev pub declares_few : Tree → Bool
+declares_few p = nat_le (length p.indices) 8 && (nat_le (length p.arrays) 8 && (nat_le (length p.scalars) 8 && (length p.procedures == 0)))
+
+-- whether a tree is of the first profile
+abbrev pub is_first_tree : Tree → Bool
+is_first_tree p = declares_few p && (list_all (is_array (length p.indices)) p.arrays && are_forms p p.body)
+
+-- the program of a tree and an input, with these lengths
+abbrev pub first_with : Tree → (lengths : List ℕ) → Option FirstProgram
+first_with p lengths = only_if (are_ranges (length lengths) p.indices) (record { program = p; lengths = lengths })
+
+-- the program of a tree and an input
+abbrev pub first_of : Tree → (input : List ℕ) → Option FirstProgram
+first_of p input = if is_first_tree p then option_and_then (first_with p) (lengths_in input) else None

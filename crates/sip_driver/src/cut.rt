@@ -1,38 +1,10 @@
-//! Texts, cut into lines and words.
+//! Texts, cut into lines.
 
-ghost use Rattle.std.specs.Prelude.{◌≡◌, ◌==◌, map, slice_index_or, IfOk, []};
+ghost use Rattle.std.specs.Prelude.{◌≡◌, ◌==◌, map, IfOk};
 ghost use Rattle.std.specs.List.{slice_split};
 ghost use Rattle.sip_driver.specs.Reading as spec;
 
-use crate::names::is_name_byte;
 use std::alloc::{AllocError, Global};
-
-/// The words of a line, empty ones among them: what stands between the bytes that are in no name.
-pub fn words_in<'a>(alloc: Global, text: &'a [u8]) -> Result<Vec<&'a [u8]>, AllocError>
-    ensures { IfOk result (λ words. map (λ w. w.now) words.items ≡ spec.words_in text.now) }
-{
-    text.split(|b| !is_name_byte(*b)).collect(alloc)
-}
-
-/// The bytes that are in no name.
-pub fn marks_in(alloc: Global, text: &[u8]) -> Result<Vec<u8>, AllocError>
-    ensures { IfOk result (λ marks. marks.items ≡ spec.marks_in text.now) }
-{
-    text.iter()
-        .copied()
-        .filter(|b| !is_name_byte(*b))
-        .collect(alloc)
-}
-
-/// The word at a place, an empty one past the last.
-pub fn word_at<'a>(words: &[&'a [u8]], place: usize) -> &'a [u8]
-    ensures { result.now ≡ spec.word_at (map (λ w. w.now) words.now) place }
-{
-    match words.get(place) {
-        Some(word) => *word,
-        None => b"".as_slice(),
-    }
-}
 
 /// The texts between the line ends.
 pub fn cut_at_ends<'a>(alloc: Global, text: &'a [u8]) -> Result<Vec<&'a [u8]>, AllocError>

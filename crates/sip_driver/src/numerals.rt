@@ -1,25 +1,7 @@
 //! Numerals: the numbers that digits spell.
 
-ghost use Rattle.std.specs.Prelude.{◌≡◌, true};
-ghost use Rattle.sip_driver.specs.Lines as lines;
+ghost use Rattle.std.specs.Prelude.{◌≡◌};
 ghost use Rattle.sip_driver.specs.Reading as spec;
-
-/// Whether digits spell a number that fits 64 bits.
-#[tactic(auto, using(crate::proofs::NumeralLemmas::numeral_found))]
-pub fn is_numeral(digits: &[u8]) -> bool
-    ensures { result ≡ lines.is_numeral digits.now }
-{
-    number_in(digits).is_some()
-}
-
-/// The number that digits spell.
-#[tactic(auto, using(crate::proofs::NumeralLemmas::numeral_is))]
-pub fn value_of(digits: &[u8]) -> u64
-    requires { lines.is_numeral digits.now ≡ true }
-    ensures { result ≡ lines.value_of digits.now }
-{
-    number_in(digits).unwrap_or(0)
-}
 
 /// The number that digits spell, if they are digits and it fits 64 bits.
 pub fn number_in(digits: &[u8]) -> Option<u64>

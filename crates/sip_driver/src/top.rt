@@ -1,15 +1,15 @@
 //! The top call.
 
-ghost use Rattle.std.specs.Prelude.{◌≡◌, ◌≢◌, ◌≤◌};
+ghost use Rattle.std.specs.Prelude.{◌≡◌, ◌≢◌, ◌≤◌, ◌⊎◌};
 ghost use Rattle.sip_files.specs.Files.{CountsOnly};
 ghost use Rattle.sip_files.specs.Loading.{Loading};
 ghost use Rattle.sip_files.specs.declared.call.Call.TheVariants.{Load};
-ghost use Rattle.sip_driver.specs.Headline.{Done, IsUsage, Unread, RefusesUnreadable, NotFirst, NotWritten, NoMemory, IsAnswer};
+ghost use Rattle.sip_driver.specs.Headline.{Done, IsUsage, Unread, RefusesUnreadable, Unparsed, NotFirst, NotWritten, NoMemory, IsAnswer};
 ghost use Rattle.sip_driver.specs.Says.{Says, line_of};
 
 use crate::answer::Answer;
 use crate::perform::perform;
-use crate::say::{say, say_unread};
+use crate::say::{say, say_fault, say_unread};
 use crate::status::Status;
 use crate::words::files_asked;
 use sip_files::{Files, Sink};
@@ -18,7 +18,7 @@ use std::alloc::Global;
 /// Does what the words ask for: `sip run <program> <input>` runs a program of the first profile.
 ///
 /// The output gains the printed lines, each as it comes; a refusal has its one line on `err`.
-#[tactic(auto, using(crate::proofs::TopLemmas::texts_readable))]
+#[tactic(auto, using(crate::proofs::TopLemmas::program_readable, crate::proofs::TopLemmas::input_readable))]
 pub fn sip<F: Files, K: Sink>(
     alloc: Global,
     words: &[String],
@@ -32,8 +32,11 @@ pub fn sip<F: Files, K: Sink>(
     ensures usage { IsUsage result.0 words.now }
     ensures unread { result.0 ≡ 2 → Unread words.now (Loading F.load_gives F.told F.faults F.overlong)
         files.old files.new (Says K.written K.faults err.old err.new) }
-    ensures unreadable { RefusesUnreadable result.0 words.now (F.told files.old) }
-    ensures not_first { result.0 ≡ 3 → NotFirst words.now (Loading F.load_gives F.told F.faults F.overlong) files.old files.new }
+    ensures unreadable { RefusesUnreadable result.0 words.now (F.told files.old)
+        (Unparsed words.now (Loading F.load_gives F.told F.faults F.overlong) files.old files.new (Says K.written K.faults err.old err.new)) }
+    ensures syntax { result.0 ≡ 3
+        → Unparsed words.now (Loading F.load_gives F.told F.faults F.overlong) files.old files.new (Says K.written K.faults err.old err.new)
+        ⊎ NotFirst words.now (Loading F.load_gives F.told F.faults F.overlong) files.old files.new (Says K.written K.faults err.old err.new) }
     ensures not_written { result.0 ≡ 10 → NotWritten words.now (Loading F.load_gives F.told F.faults F.overlong)
         files.old files.new K.written K.faults out.old out.new }
     ensures memory { result.0 ≡ 13 → NoMemory words.now (Loading F.load_gives F.told F.faults F.overlong)
@@ -44,10 +47,10 @@ pub fn sip<F: Files, K: Sink>(
     ensures usage_files { result.0 ≡ 1 → files.new ≡ files.old }
     ensures usage_kept { result.0 ≡ 1 → K.written out.new ≡ K.written out.old }
     ensures unread_kept { result.0 ≡ 2 → K.written out.new ≡ K.written out.old }
-    ensures not_first_kept { result.0 ≡ 3 → K.written out.new ≡ K.written out.old }
+    ensures syntax_kept { result.0 ≡ 3 → K.written out.new ≡ K.written out.old }
 
-    // Each refusal has its one line, that on a file above.
-    ensures line { result.0 ≢ 2 → Says K.written K.faults err.old err.new (line_of result.0) }
+    // Each refusal has its one line, that on a file and that on a program's text above.
+    ensures line { result.0 ≢ 2 → result.0 ≢ 3 → Says K.written K.faults err.old err.new (line_of result.0) }
 
     ensures told { F.told files.new ≡ F.told files.old }
     ensures counts { CountsOnly Load (F.faults files.old) (F.faults files.new) }
@@ -66,6 +69,10 @@ pub fn sip<F: Files, K: Sink>(
         Answer::NoProgram => {
             say_unread(err, program);
             Status::READ_FAULT
+        }
+        Answer::NoTree(fault) => {
+            say_fault(err, fault);
+            Status::SYNTAX
         }
         Answer::NoInput => {
             say_unread(err, input);
