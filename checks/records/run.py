@@ -108,7 +108,7 @@ def main():
         options, choices = asked(folder)
         count = len(entries_of(folder)) + 2
         program = PROGRAMS[name.split(".")[0]]
-        courses.append((program, options, "Legal.plain_run %s (%s) (Legal.choices_of [%s]) %d" % (program, options, ", ".join(choices), count)))
+        courses.append((program, options, "Legal.least_recent_run %s (%s) (Legal.choices_of [%s]) %d" % (program, options, ", ".join(choices), count)))
     records = ["Recorded.record_bytes (%s).entries" % course for _, _, course in courses]
     texts = ["Written.written %s (%s) (%s)" % (program, options, course) for program, options, course in courses]
     standings = ["(%s).standing" % course for _, _, course in courses]

@@ -57,6 +57,21 @@ fn two_by_two(rt: HostRuntime) -> Result<(), Fail> {
     Ok(())
 }
 
+// `p(m,i) = v(m,l) * t(l,i)` with 2, 4 and 3 elements along m, i and l.
+#[test]
+fn the_axes_of_a_product_of_matrices(rt: HostRuntime) {
+    let (m, i, l) = (2, 4, 3);
+    let free_a = [axis(m, l, 0, i)];
+    let free_b = [axis(i, 0, 1, 1)];
+    let shared = [axis(l, 1, i, 0)];
+    let v = [1, 2, 3, 4, 5, 6];
+    let t = [1, 2, 3, 4, 5, 6, 7, 8, 9, 10, 11, 12];
+    let mut p = [0u64; 8];
+    assert!(rt; is_by_rows(6, 12, 8, &free_a, &free_b, &shared));
+    contract(&v, &t, &mut p, &free_a, &free_b, &shared, How::Set);
+    assert_eq!(rt; p, [38, 44, 50, 56, 83, 98, 113, 128]);
+}
+
 #[test]
 fn lists_that_are_short_and_targets_that_overlap_do_not_fit(rt: HostRuntime) {
     let cases = [

@@ -2,7 +2,7 @@
 use Rattle.std.specs.Prelude.{◌≡◌, ◌+◌, ◌*◌, List, [], ◌∷◌, length, replicate}
 use Rattle.sial_worked.specs.Chunks.{chunks, chunks_three, chunks_none}
 use Rattle.sip_model.specs.declared.entry.Entry.{Entry}
-use Rattle.sip_model.specs.Legal.{AllDone, choices_of, plain_run}
+use Rattle.sip_model.specs.Legal.{AllDone, choices_of, least_recent_run}
 use Rattle.machine_worked.specs.Records.{quiet, of_workers, Recorded}
 
 -- its entries where each choice is 0
@@ -44,8 +44,8 @@ pub record ChunksRecorded : Type 0 where
 -- a pardo of N iterations in c chunks has 2W + N + 3(c + W) entries, whatever the choices are
 pub record ChunksCounted : Type 0 where
   -- chunks of 4, 3 and 2, and seven of 1
-  pub sixteen : length (plain_run chunks (of_workers 2) (choices_of []) 99).entries ≡ 2 * 2 + 16 + 3 * (10 + 2)
-  pub sixteen_mixed : length (plain_run chunks (of_workers 2) (choices_of (replicate 40 7)) 99).entries ≡ 2 * 2 + 16 + 3 * (10 + 2)
+  pub sixteen : length (least_recent_run chunks (of_workers 2) (choices_of []) 99).entries ≡ 2 * 2 + 16 + 3 * (10 + 2)
+  pub sixteen_mixed : length (least_recent_run chunks (of_workers 2) (choices_of (replicate 40 7)) 99).entries ≡ 2 * 2 + 16 + 3 * (10 + 2)
   -- three chunks of 1
-  pub three : length (plain_run chunks_three (of_workers 32) (choices_of (replicate 99 41)) 199).entries ≡ 2 * 32 + 3 + 3 * (3 + 32)
-  pub none : length (plain_run chunks_none (of_workers 2) (choices_of []) 99).entries ≡ 2 * 2 + 0 + 3 * (0 + 2)
+  pub three : length (least_recent_run chunks_three (of_workers 32) (choices_of (replicate 99 41)) 199).entries ≡ 2 * 32 + 3 + 3 * (3 + 32)
+  pub none : length (least_recent_run chunks_none (of_workers 2) (choices_of []) 99).entries ≡ 2 * 2 + 0 + 3 * (0 + 2)

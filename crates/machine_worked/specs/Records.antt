@@ -1,9 +1,9 @@
--- Entries as they are recorded, written shortly, and what a plain run of some entries is.
+-- Entries as they are recorded, written shortly, and what an LRU run of some entries is.
 use Rattle.std.specs.Prelude.{◌≡◌, ℕ, suc, List, [], length}
 use Rattle.sial_meaning.specs.Setting.{Setting}
 use Rattle.sip_model.specs.declared.entry.Entry.{Entry}
 use Rattle.sip_model.specs.declared.options.Options.{Options}
-use Rattle.sip_model.specs.Legal.{Standing, choices_of, plain_run}
+use Rattle.sip_model.specs.Legal.{Standing, choices_of, least_recent_run}
 use Rattle.sip_model.specs.Recorded.{unused_block}
 use Rattle.sip_model.specs.Results.{lines}
 
@@ -39,10 +39,10 @@ from instance iteration ordinal e = record e { instance = instance; iteration = 
 abbrev pub of_workers : ℕ → Options
 of_workers workers = record { workers = workers; servers = 1; cache = 16; puts = 4; server_cache = 16; place = [] }
 
--- the plain run under these choices has these entries, stands so, and has printed these lines
+-- the LRU run under these choices has these entries, stands so, and has printed these lines
 pub record Recorded
     (g : Setting) (o : Options) (choices : List ℕ) (entries : List Entry) (standing : Standing) (printed : List (List ℕ))
     : Type 0 where
-  pub entries_are : (plain_run g o (choices_of choices) (suc (length entries))).entries ≡ entries
-  pub stands : (plain_run g o (choices_of choices) (suc (length entries))).standing ≡ standing
-  pub lines_are : lines g (plain_run g o (choices_of choices) (suc (length entries))).state ≡ printed
+  pub entries_are : (least_recent_run g o (choices_of choices) (suc (length entries))).entries ≡ entries
+  pub stands : (least_recent_run g o (choices_of choices) (suc (length entries))).standing ≡ standing
+  pub lines_are : lines g (least_recent_run g o (choices_of choices) (suc (length entries))).state ≡ printed

@@ -6,4 +6,4 @@ pub mod CountLemmas
 pub mod WorkerTraffic
 pub mod MachineTraffic
 pub mod BoundedTraffic
-pub mod PlainLemmas
+pub mod LeastRecentLemmas

@@ -1,4 +1,4 @@
--- States of legal runs are reached by entries, and plain runs are legal.
+-- States of legal runs are reached by entries, and LRU runs are legal.
 use Rattle.std.proofs.Common.{◌≡◌, ℕ, Bool, true, false, List, [], ◌∷◌, Option, refl, sym, ap, ◌∙◌, subst}
 use Rattle.std.specs.Prelude.{◌||◌, nat_lt, IsTrue}
 use Rattle.std.specs.List.{list_any}
@@ -13,8 +13,8 @@ use Rattle.sip_model.specs.Delivering.{Performed, Moved}
 use Rattle.sip_model.specs.Enabled.{Choice}
 use Rattle.sip_model.specs.Legal.{Takes, begins, goes, traps, conflicts, ends, stops}
 use Rattle.sip_model.specs.Machines.{Machine}
-use Rattle.sip_model.specs.Performing.{Candidate, is_permitted, oldest, older_of, plain_of, candidates, Permits, IsPlain, perform}
-use Rattle.sip_model.specs.RunLaws.{RunsReach, PlainRunsAreLegal}
+use Rattle.sip_model.specs.Performing.{Candidate, is_permitted, oldest, older_of, least_recent_of, candidates, Permits, IsLeastRecent, perform}
+use Rattle.sip_model.specs.RunLaws.{RunsReach, LeastRecentRunsAreLegal}
 use Rattle.sip_model.specs.Steps.{Reach, at_start, then_step, Leads}
 use Rattle.sip_model.specs.Workers.{same_named}
 use Rattle.sip_model.proofs.EntryLemmas.{entries-are-steps}
@@ -58,28 +58,28 @@ oldest-among c (d ∷ ds) = go (nat_lt (older_of d (oldest ds)).used c.used) ref
         (ap (λ b. same_named c.block (older_of d (oldest ds)).block || b) r ∙ or-true (same_named c.block (older_of d (oldest ds)).block))
     go false e r = rw (e, named-self c.block) refl
 
--- the plain drop is permitted
-pub plain-permitted : (cs : List Candidate) → IsTrue (is_permitted cs (plain_of cs))
-plain-permitted [] = refl
-plain-permitted (c ∷ cs) = oldest-among c cs
+-- the LRU drop is permitted
+pub least-recent-permitted : (cs : List Candidate) → IsTrue (is_permitted cs (least_recent_of cs))
+least-recent-permitted [] = refl
+least-recent-permitted (c ∷ cs) = oldest-among c cs
 
--- an entry with the plain drop is one with a permitted drop
+-- an entry with the LRU drop is one with a permitted drop
 takes-permitted : (g : Setting) (o : Options) (s : Machine) (choice : ℕ) (c : Choice) (dropped : Option Named)
-    → Takes (IsPlain g o) g o s choice c dropped
+    → Takes (IsLeastRecent g o) g o s choice c dropped
     → Takes (Permits g o) g o s choice c dropped
 takes-permitted g o s choice c dropped t = record {
   taken_by = t.taken_by;
-  allowed = subst (λ d. IsTrue (is_permitted (candidates g o s c) d)) (sym t.allowed) (plain-permitted (candidates g o s c));
+  allowed = subst (λ d. IsTrue (is_permitted (candidates g o s c) d)) (sym t.allowed) (least-recent-permitted (candidates g o s c));
 }
 
--- a plain run is legal
-pub plain-runs-are-legal : PlainRunsAreLegal
-plain-runs-are-legal g o choices _ _ _ begins = begins
-plain-runs-are-legal g o choices _ _ _ (goes {s = s} c dropped t run takes e) =
-    goes c dropped t (plain-runs-are-legal g o choices _ _ _ run) (takes-permitted g o s _ c dropped takes) e
-plain-runs-are-legal g o choices _ _ _ (traps {s = s} c dropped trap worker run takes e) =
-    traps c dropped trap worker (plain-runs-are-legal g o choices _ _ _ run) (takes-permitted g o s _ c dropped takes) e
-plain-runs-are-legal g o choices _ _ _ (conflicts {s = s} c dropped found run takes e) =
-    conflicts c dropped found (plain-runs-are-legal g o choices _ _ _ run) (takes-permitted g o s _ c dropped takes) e
-plain-runs-are-legal g o choices _ _ _ (ends run e a) = ends (plain-runs-are-legal g o choices _ _ _ run) e a
-plain-runs-are-legal g o choices _ _ _ (stops run e a) = stops (plain-runs-are-legal g o choices _ _ _ run) e a
+-- an LRU run is legal
+pub least-recent-runs-are-legal : LeastRecentRunsAreLegal
+least-recent-runs-are-legal g o choices _ _ _ begins = begins
+least-recent-runs-are-legal g o choices _ _ _ (goes {s = s} c dropped t run takes e) =
+    goes c dropped t (least-recent-runs-are-legal g o choices _ _ _ run) (takes-permitted g o s _ c dropped takes) e
+least-recent-runs-are-legal g o choices _ _ _ (traps {s = s} c dropped trap worker run takes e) =
+    traps c dropped trap worker (least-recent-runs-are-legal g o choices _ _ _ run) (takes-permitted g o s _ c dropped takes) e
+least-recent-runs-are-legal g o choices _ _ _ (conflicts {s = s} c dropped found run takes e) =
+    conflicts c dropped found (least-recent-runs-are-legal g o choices _ _ _ run) (takes-permitted g o s _ c dropped takes) e
+least-recent-runs-are-legal g o choices _ _ _ (ends run e a) = ends (least-recent-runs-are-legal g o choices _ _ _ run) e a
+least-recent-runs-are-legal g o choices _ _ _ (stops run e a) = stops (least-recent-runs-are-legal g o choices _ _ _ run) e a

@@ -1,4 +1,4 @@
--- Legal runs: entries with states under choices; plain ones, and how a run stands.
+-- Legal runs: entries with states under choices; those that drop the block used longest ago (LRU), and how a run stands.
 use Rattle.std.specs.Prelude.{◌≡◌, ℕ, zero, suc, List, [], ◌∷◌, ◌++◌, length, Bool, true, false, Option, Some, None, slice_index_or}
 use Rattle.std.specs.List.{list_all}
 use Rattle.sial_syntax.specs.Boxes.{numbers_from}
@@ -12,7 +12,7 @@ use Rattle.sip_model.specs.declared.options.Options.{Options}
 use Rattle.sip_model.specs.Delivering.{Performed, Moved, Trapped, Conflict}
 use Rattle.sip_model.specs.Enabled.{Choice, enabled, place_taken, taken}
 use Rattle.sip_model.specs.Machines.{Machine, start_machine, worker_at}
-use Rattle.sip_model.specs.Performing.{Permits, IsPlain, plain_drop, perform}
+use Rattle.sip_model.specs.Performing.{Permits, IsLeastRecent, least_recent_drop, perform}
 use Rattle.sip_model.specs.Recorded.{entry_of, seen}
 
 -- how a run stands: it goes on, or it has ended
@@ -44,7 +44,7 @@ choices_of list k = slice_index_or list k 0
 abbrev pub recorded : Setting → Options → Machine → (choice : ℕ) → Choice → Option Named → Entry
 recorded g o s choice c dropped = entry_of (length (enabled g o s)) (place_taken choice (enabled g o s)) dropped (seen g o s c)
 
--- what an entry may drop: in each legal run what is permitted, in a plain one what was used longest ago
+-- what an entry may drop: in each legal run what is permitted, in an LRU one what was used longest ago
 abbrev pub Allowing : Type 1
 Allowing = Machine → Choice → Option Named → Type 0
 
@@ -79,9 +79,9 @@ pub data RunBy (allows : Allowing) (g : Setting) (o : Options) (choices : ℕ �
 abbrev pub Legal : (g : Setting) (o : Options) (choices : ℕ → ℕ) → List Entry → Machine → Standing → Type 0
 Legal g o choices entries s standing = RunBy (Permits g o) g o choices entries s standing
 
--- a plain run
-abbrev pub Plain : (g : Setting) (o : Options) (choices : ℕ → ℕ) → List Entry → Machine → Standing → Type 0
-Plain g o choices entries s standing = RunBy (IsPlain g o) g o choices entries s standing
+-- an LRU run
+abbrev pub LeastRecent : (g : Setting) (o : Options) (choices : ℕ → ℕ) → List Entry → Machine → Standing → Type 0
+LeastRecent g o choices entries s standing = RunBy (IsLeastRecent g o) g o choices entries s standing
 
 -- entries with the state behind them and how that run stands
 pub record Course : Type 0 where
@@ -100,21 +100,21 @@ abbrev pub ended : Course → (over : Bool) → Course
 ended r true = record r { standing = AllDone }
 ended r false = record r { standing = Stuck }
 
--- a run behind the entry that a choice takes, with the plain drop
+-- a run behind the entry that a choice takes, with the LRU drop
 abbrev pub entry_taken : Setting → Options → (choice : ℕ) → Course → Option Choice → Course
 entry_taken g o choice r None = ended r (all_over g o r.state)
 entry_taken g o choice r (Some c) =
     with_entry
     r
-    (recorded g o r.state choice c (plain_drop g o r.state c))
-    (perform g o r.state c (plain_drop g o r.state c))
+    (recorded g o r.state choice c (least_recent_drop g o r.state c))
+    (perform g o r.state c (least_recent_drop g o r.state c))
 
 -- a run one entry on, or at its end
 abbrev pub one_on : Setting → Options → (choice : ℕ) → Course → Standing → Course
 one_on g o choice r Open = entry_taken g o choice r (taken choice (enabled g o r.state))
 one_on g o choice r _ = r
 
--- the plain run of so many entries, or up to its end
-abbrev pub plain_run : Setting → Options → (choices : ℕ → ℕ) → (count : ℕ) → Course
-plain_run g o choices zero = record { entries = []; state = start_machine g o; standing = Open }
-plain_run g o choices (suc n) = (λ (r : Course). one_on g o (choices n) r r.standing) (plain_run g o choices n)
+-- the LRU run of so many entries, or up to its end
+abbrev pub least_recent_run : Setting → Options → (choices : ℕ → ℕ) → (count : ℕ) → Course
+least_recent_run g o choices zero = record { entries = []; state = start_machine g o; standing = Open }
+least_recent_run g o choices (suc n) = (λ (r : Course). one_on g o (choices n) r r.standing) (least_recent_run g o choices n)

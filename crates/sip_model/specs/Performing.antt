@@ -102,21 +102,21 @@ abbrev pub oldest : List Candidate → Option Candidate
 oldest [] = None
 oldest (c ∷ cs) = Some (older_of c (oldest cs))
 
--- the plain drop: the candidate used longest ago
-abbrev pub plain_of : List Candidate → Option Named
-plain_of cs = option_map (λ (c : Candidate). c.block) (oldest cs)
+-- the LRU drop: the candidate used longest ago
+abbrev pub least_recent_of : List Candidate → Option Named
+least_recent_of cs = option_map (λ (c : Candidate). c.block) (oldest cs)
 
 -- an entry may drop this
 abbrev pub Permits : Setting → Options → Machine → Choice → Option Named → Type 0
 Permits g o s choice dropped = IsTrue (is_permitted (candidates g o s choice) dropped)
 
--- the plain drop of an entry
-abbrev pub plain_drop : Setting → Options → Machine → Choice → Option Named
-plain_drop g o s choice = plain_of (candidates g o s choice)
+-- the LRU drop of an entry
+abbrev pub least_recent_drop : Setting → Options → Machine → Choice → Option Named
+least_recent_drop g o s choice = least_recent_of (candidates g o s choice)
 
 -- an entry drops the candidate used longest ago
-abbrev pub IsPlain : Setting → Options → Machine → Choice → Option Named → Type 0
-IsPlain g o s choice dropped = dropped ≡ plain_drop g o s choice
+abbrev pub IsLeastRecent : Setting → Options → Machine → Choice → Option Named → Type 0
+IsLeastRecent g o s choice dropped = dropped ≡ least_recent_drop g o s choice
 
 -- the machine after what an action does
 abbrev pub acted_in : Setting → Options → Machine → (worker : ℕ) → Acted → Machine

@@ -46,7 +46,7 @@ pub record IsWithin (o : Options) : Type 0 where
   pub place : length o.place ≤ 65536
 
 -- a fact of every legal run, with its entries, its last state and how it stands: of each sound setting, accepted or not, all options
--- within the limits, all choices, plain or not
+-- within the limits, all choices, LRU or not
 abbrev pub OfRuns : (Setting → Options → List Entry → Machine → Standing → Type 0) → Type 0
 OfRuns fact =
     (g : Setting) (o : Options) → IsSound g → IsWithin o
@@ -146,17 +146,17 @@ pub record IsOneRun (entries other : List Entry) (s t : Machine) (standing endin
   pub states_are : s ≡ t
   pub standings_are : HasEnded standing → HasEnded ending → standing ≡ ending
 
--- there is a plain run of so many entries, or one that has ended before
-abbrev pub HasPlainRun : Setting → Options → (choices : ℕ → ℕ) → (count : ℕ) → Type 0
-HasPlainRun g o choices count =
-    (entries : List Entry) × ((s : Machine) × ((standing : Standing) × (run.Plain g o choices entries s standing
+-- there is an LRU run of so many entries, or one that has ended before
+abbrev pub HasLeastRecentRun : Setting → Options → (choices : ℕ → ℕ) → (count : ℕ) → Type 0
+HasLeastRecentRun g o choices count =
+    (entries : List Entry) × ((s : Machine) × ((standing : Standing) × (run.LeastRecent g o choices entries s standing
     × ((length entries ≡ count) ⊎ ((length entries < count) × HasEnded standing)))))
 
--- there is one plain run of each length up to the end
-pub record OnePlainRun : Type 0 where
-  pub some : (g : Setting) (o : Options) (choices : ℕ → ℕ) (count : ℕ) → HasPlainRun g o choices count
+-- there is one LRU run of each length up to the end
+pub record OneLeastRecentRun : Type 0 where
+  pub some : (g : Setting) (o : Options) (choices : ℕ → ℕ) (count : ℕ) → HasLeastRecentRun g o choices count
   pub one : (g : Setting) (o : Options) (choices : ℕ → ℕ) (entries other : List Entry) (s t : Machine) (standing ending : Standing)
-      → run.Plain g o choices entries s standing → run.Plain g o choices other t ending → length entries ≡ length other
+      → run.LeastRecent g o choices entries s standing → run.LeastRecent g o choices other t ending → length entries ≡ length other
       → IsOneRun entries other s t standing ending
 
 -- lines and result are those of the outcome of the sequential meaning

@@ -1,4 +1,4 @@
--- Laws that lead from the functions to the relations, and from plain runs to legal ones.
+-- Laws that lead from the functions to the relations, and from LRU runs to legal ones.
 use Rattle.std.specs.Prelude.{◌≡◌, ℕ, List, length, Option, Some}
 use Rattle.sial_meaning.specs.Setting.{Setting}
 use Rattle.sial_meaning.specs.Statement.{Named}
@@ -8,7 +8,7 @@ use Rattle.sip_model.specs.Acting.{action}
 use Rattle.sip_model.specs.Acts.{ActsBy}
 use Rattle.sip_model.specs.Enabled.{Choice, enabled, taken}
 use Rattle.sip_model.specs.Legal as run
-use Rattle.sip_model.specs.Legal.{Standing, Legal, Course, plain_run}
+use Rattle.sip_model.specs.Legal.{Standing, Legal, Course, least_recent_run}
 use Rattle.sip_model.specs.Machines.{Machine}
 use Rattle.sip_model.specs.Performing.{Permits, perform}
 use Rattle.sip_model.specs.Steps.{Reach, Leads}
@@ -30,19 +30,19 @@ RunsReach =
     (g : Setting) (o : Options) (choices : ℕ → ℕ) (entries : List Entry) (s : Machine) (standing : Standing)
     → Legal g o choices entries s standing → Reach g o s
 
--- a plain run is legal
-abbrev pub PlainRunsAreLegal : Type 0
-PlainRunsAreLegal =
+-- an LRU run is legal
+abbrev pub LeastRecentRunsAreLegal : Type 0
+LeastRecentRunsAreLegal =
     (g : Setting) (o : Options) (choices : ℕ → ℕ) (entries : List Entry) (s : Machine) (standing : Standing)
-    → run.Plain g o choices entries s standing → Legal g o choices entries s standing
+    → run.LeastRecent g o choices entries s standing → Legal g o choices entries s standing
 
--- a plain run has the entries and the state of the computed run of as many entries
+-- an LRU run has the entries and the state of the computed run of as many entries
 pub record IsComputed (g : Setting) (o : Options) (choices : ℕ → ℕ) (entries : List Entry) (s : Machine) : Type 0 where
-  pub entries_are : entries ≡ (plain_run g o choices (length entries)).entries
-  pub state_is : s ≡ (plain_run g o choices (length entries)).state
+  pub entries_are : entries ≡ (least_recent_run g o choices (length entries)).entries
+  pub state_is : s ≡ (least_recent_run g o choices (length entries)).state
 
--- each plain run is computed
-abbrev pub PlainRunsAreComputed : Type 0
-PlainRunsAreComputed =
+-- each LRU run is computed
+abbrev pub LeastRecentRunsAreComputed : Type 0
+LeastRecentRunsAreComputed =
     (g : Setting) (o : Options) (choices : ℕ → ℕ) (entries : List Entry) (s : Machine) (standing : Standing)
-    → run.Plain g o choices entries s standing → IsComputed g o choices entries s
+    → run.LeastRecent g o choices entries s standing → IsComputed g o choices entries s

@@ -1,7 +1,7 @@
 //! Laws of the machine that proofs above cite, with nothing to run.
 
-ghost use Rattle.sip_model.specs.Promises.{BoundedTraffic, OnePlainRun};
-ghost use Rattle.sip_model.specs.RunLaws.{ActionsAreActs, EntriesAreSteps, PlainRunsAreComputed, PlainRunsAreLegal, RunsReach};
+ghost use Rattle.sip_model.specs.Promises.{BoundedTraffic, OneLeastRecentRun};
+ghost use Rattle.sip_model.specs.RunLaws.{ActionsAreActs, EntriesAreSteps, LeastRecentRunsAreComputed, LeastRecentRunsAreLegal, RunsReach};
 
 /// A worker's action, where it has one, is one case of the relation, and each trap is one.
 pub fn actions_are_acts()
@@ -19,8 +19,8 @@ pub fn runs_are_reached()
 {}
 
 /// Where each dropped block is the one used longest ago, a run is legal.
-pub fn plain_runs_are_legal()
-    ensures { PlainRunsAreLegal }
+pub fn least_recent_runs_are_legal()
+    ensures { LeastRecentRunsAreLegal }
 {}
 
 /// In each state of each legal run a worker has no more cached and awaited blocks, puts and messages of control than it may.
@@ -28,8 +28,8 @@ pub fn traffic_is_bounded()
     ensures { BoundedTraffic }
 {}
 
-/// Under all choices there is one plain run of each length up to its end, and that is the computed one.
-pub fn plain_runs_are_one()
-    ensures one { OnePlainRun }
-    ensures computed { PlainRunsAreComputed }
+/// Under all choices there is one LRU run of each length up to its end, and that is the computed one.
+pub fn least_recent_runs_are_one()
+    ensures one { OneLeastRecentRun }
+    ensures computed { LeastRecentRunsAreComputed }
 {}
