@@ -1,5 +1,5 @@
 -- Panels: four more columns, sums over a part, and parts of a sum that meet the target one after the other.
-use Rattle.std.proofs.Common.{◌≡◌, ℕ, ◌+◌, ◌-◌, ◌*◌, ◌/◌, ◌%◌, ◌^◌, ◌<◌, ◌≤◌, List, [], length, get_or, ap, sym, subst, ◌∙◌, arith, min, take}
+use Rattle.std.proofs.Common.{◌≡◌, ℕ, ◌+◌, ◌-◌, ◌*◌, ◌/◌, ◌%◌, ◌^◌, ◌<◌, ◌≤◌, List, [], ◌∷◌, zero, suc, refl, length, get_or, ap, sym, subst, ◌∙◌, arith, min, take}
 use Rattle.std.proofs.lemmas.List.{get_or-take, length-take-le}
 use Rattle.kernel_permute.specs.declared.how.How.{How}
 use Rattle.kernel_contract.specs.Parts.{AreTargets, Replaced}
@@ -80,3 +80,12 @@ panel_terms from lanes at panel panels positions i j o is lane e =
     ap (λ t. t % 2 ^ 64)
     (sum_to-cong positions (λ k. get_or from ((get_or at k 0 + o) % 2 ^ 64) 0 * column_entry panels k j) (λ k. entry panel k i * column_entry panels k j)
     (λ k low. let row = panel_term from lanes at panel positions k i o is low lane e in rw row))
+
+-- what stands in the first column of a tile that has no other
+pub first-column : (sums : List ℕ) (i : ℕ) → i < 4
+    → entry ((get_or sums 0 0 ∷ 0 ∷ 0 ∷ 0 ∷ []) ∷ (get_or sums 1 0 ∷ 0 ∷ 0 ∷ 0 ∷ []) ∷ (get_or sums 2 0 ∷ 0 ∷ 0 ∷ 0 ∷ []) ∷ (get_or sums 3 0 ∷ 0 ∷ 0 ∷ 0 ∷ []) ∷ []) i 0 ≡ get_or sums i 0
+first-column sums zero h = refl
+first-column sums (suc zero) h = refl
+first-column sums (suc (suc zero)) h = refl
+first-column sums (suc (suc (suc zero))) h = refl
+first-column sums (suc (suc (suc (suc i)))) h = absurd (omega (arith, h))

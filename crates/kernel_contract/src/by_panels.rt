@@ -11,7 +11,7 @@ ghost use Rattle.kernel_contract.specs.Sum.{sum_to};
 ghost use Rattle.kernel_contract.specs.Walks.{IsFilled, Stands, count, gone, position_at};
 
 use crate::axis::Axis;
-use crate::panel::{Panel, pack, pack_columns, panel_sums};
+use crate::panel::{Panel, front_sums, pack, pack_columns};
 use crate::run::Run;
 use crate::storing::store;
 use crate::walk::Walk;
@@ -202,7 +202,13 @@ fn along(
 {
     for q in 0..16usize {
         if 4 * q < columns.len {
-            let sums = panel_sums(&packed[..positions], &panels[q][..positions]);
+            let left = columns.len - 4 * q;
+            let sums = front_sums(
+                &packed[..positions],
+                &panels[q][..positions],
+                rows.len,
+                left,
+            );
             store(to, rows, &columns.four(4 * q), &sums, how);
         }
     }

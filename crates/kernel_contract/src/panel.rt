@@ -51,8 +51,56 @@ pub fn pack_columns(from: &[u64], columns: &Run<64>, part: &Run<64>, panels: &mu
     }
 }
 
-/// The sum of the products of each row of one panel with each column of another, over all positions.
-pub fn panel_sums(a: &[[u64; 4]], b: &[[u64; 4]]) -> [[u64; 4]; 4]
+/// The sum of the products of the first rows of one panel with the first columns of another, over all positions.
+///
+/// A tile of one row or of one column, as the last one often is, takes no more than its own products.
+pub fn front_sums(a: &[[u64; 4]], b: &[[u64; 4]], rows: usize, columns: usize) -> [[u64; 4]; 4]
+    requires { length a.now ≡ length b.now }
+    ensures { (i j : ℕ) → i < 4 → j < 4 → i < rows → j < columns → entry result i j
+        ≡ sum_to (length a.now) (λ k. entry a.now k i * entry b.now k j) % 2 ^ 64 }
+{
+    if columns == 1 {
+        column_sums(a, b)
+    } else if rows == 1 {
+        row_sums(a, b)
+    } else {
+        panel_sums(a, b)
+    }
+}
+
+// the same for the first column alone
+fn column_sums(a: &[[u64; 4]], b: &[[u64; 4]]) -> [[u64; 4]; 4]
+    requires { length a.now ≡ length b.now }
+    ensures { (i : ℕ) → i < 4 → entry result i 0
+        ≡ sum_to (length a.now) (λ k. entry a.now k i * entry b.now k 0) % 2 ^ 64 }
+{
+    let mut sums = [0u64; 4];
+    for (position, rows) in a.iter().enumerate() {
+        sums = with_column(&sums, rows, b[position][0]);
+    }
+    [
+        [sums[0], 0, 0, 0],
+        [sums[1], 0, 0, 0],
+        [sums[2], 0, 0, 0],
+        [sums[3], 0, 0, 0],
+    ]
+}
+
+// the same for the first row alone
+fn row_sums(a: &[[u64; 4]], b: &[[u64; 4]]) -> [[u64; 4]; 4]
+    requires { length a.now ≡ length b.now }
+    ensures { (j : ℕ) → j < 4 → entry result 0 j
+        ≡ sum_to (length a.now) (λ k. entry a.now k 0 * entry b.now k j) % 2 ^ 64 }
+{
+    let mut sums = [0u64; 4];
+    for (position, rows) in a.iter().enumerate() {
+        sums = with_row(&sums, rows[0], &b[position]);
+    }
+    [sums, [0; 4], [0; 4], [0; 4]]
+}
+
+// the same for all four rows and columns
+fn panel_sums(a: &[[u64; 4]], b: &[[u64; 4]]) -> [[u64; 4]; 4]
     requires { length a.now ≡ length b.now }
     ensures { (i j : ℕ) → i < 4 → j < 4 → entry result i j
         ≡ sum_to (length a.now) (λ k. entry a.now k i * entry b.now k j) % 2 ^ 64 }
@@ -74,6 +122,18 @@ fn with_products(sums: &[[u64; 4]; 4], rows: &[u64; 4], columns: &[u64; 4]) -> [
         with_row(&sums[1], rows[1], columns),
         with_row(&sums[2], rows[2], columns),
         with_row(&sums[3], rows[3], columns),
+    ]
+}
+
+fn with_column(sums: &[u64; 4], rows: &[u64; 4], column: u64) -> [u64; 4]
+    ensures { (i : ℕ) → i < 4 → slice_index result i
+        ≡ (slice_index sums.now i + slice_index rows.now i * column % 2 ^ 64) % 2 ^ 64 }
+{
+    [
+        sums[0].wrapping_add(rows[0].wrapping_mul(column)),
+        sums[1].wrapping_add(rows[1].wrapping_mul(column)),
+        sums[2].wrapping_add(rows[2].wrapping_mul(column)),
+        sums[3].wrapping_add(rows[3].wrapping_mul(column)),
     ]
 }
 

@@ -16,12 +16,12 @@ loop-q-preserved c =
       | then-q-columns w ↦
           rw w.to-is
           (Replaced-four c.args.how T V
-          (λ i j. (get_or c.args.rows.now.to i 0 + get_or w.four.result.to j 0) % 2 ^ 64) (entry w.panel_sums-sums.result)
+          (λ i j. (get_or c.args.rows.now.to i 0 + get_or w.four.result.to j 0) % 2 ^ 64) (entry w.front_sums-sums.result)
           c.args.rows.now.len q w.four.result.len c.args.columns.now.len (length c.args.to.now) c.args.to.now c.loop-q.to w.store.new.to
           w.if-q-columns.true w.four.ensures.len c.requires.targets
           (λ i j row column. let at = w.four.ensures.to j (omega (arith, w.four.ensures.len)) in rw at)
           (λ i j row column. panel_sum c.args.positions c.args.packed.now c.args.panels.now q i j _ (omega (arith, w.four.ensures.len)) (omega arith)
-          (w.panel_sums-sums.ensures i j (omega (arith, c.requires.few_rows)) (omega (arith, w.four.ensures.len))))
+          (w.front_sums-sums.ensures i j (omega (arith, c.requires.few_rows)) (omega (arith, w.four.ensures.len)) (omega arith) (omega (arith, w.four.ensures.len))))
           c.loop-q.invariant w.store.ensures)
       | else-q-columns w ↦
           let same : min (4 * q) c.args.columns.now.len ≡ min (4 * (q + 1)) c.args.columns.now.len = omega (arith, w.if-q-columns.false) in
