@@ -1,0 +1,7 @@
+-- Start values as the code keeps them.
+use Rattle.index_spaces.specs.declared.start.StartBlock.{StartBlock}
+use Rattle.index_spaces.specs.Given.{Given}
+
+-- the block that is kept
+abbrev pub given_of : StartBlock → Given
+given_of b = record { array = b.array; number = b.number; words = b.words.items }
