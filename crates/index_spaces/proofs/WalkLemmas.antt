@@ -4,7 +4,7 @@ use Rattle.sial_syntax.specs.Spaces.{Spaces}
 use Rattle.sial_syntax.specs.Tree.{Tree, Procedure, Block, End, Then, Plain, Do, DoIn, Pardo, If, IfElse}
 use Rattle.sial_syntax.specs.Visits.{Visit, visits, inner_visits, body_visits}
 use Rattle.index_spaces.specs.Refusing.{AtLine, sooner, soonest, statement_refusal, statements_refusal}
-use Rattle.index_spaces.specs.Walk.{first_in, first_inside, first_of_procedures}
+use Rattle.index_spaces.specs.Walk.{first_in, first_inside, first_of_all}
 use Rattle.index_spaces.proofs.SoonerLemmas.{sooner-none, sooner_three, soonest-append}
 
 -- the refusal of a statement where it stands
@@ -44,7 +44,7 @@ mutual
 
 -- the walk through procedures
 in-procedures : (p : Tree) (spaces : Spaces) (qs : List Procedure) (first : Option AtLine)
-    → first_of_procedures p spaces qs first ≡ sooner first (of_visits p spaces (flat_map (λ (q : Procedure). body_visits q.body) qs))
+    → first_of_all p spaces qs first ≡ sooner first (of_visits p spaces (flat_map (λ (q : Procedure). body_visits q.body) qs))
 in-procedures p spaces [] first = sym (sooner-none first)
 in-procedures p spaces (q ∷ qs) first =
     let others = of_visits p spaces (flat_map (λ (q : Procedure). body_visits q.body) qs) in
@@ -54,7 +54,7 @@ in-procedures p spaces (q ∷ qs) first =
     ∙ ap (sooner first) (sym (soonest-append (of_visit p spaces) (body_visits q.body) (flat_map (λ (q : Procedure). body_visits q.body) qs)))))
 
 -- what the walk finds is the refusal that comes first
-pub walk_first : (p : Tree) (spaces : Spaces) → first_of_procedures p spaces p.procedures (first_in p spaces p.body None) ≡ statements_refusal p spaces
+pub walk_first : (p : Tree) (spaces : Spaces) → first_of_all p spaces p.procedures (first_in p spaces p.body None) ≡ statements_refusal p spaces
 walk_first p spaces =
     in-procedures p spaces p.procedures (first_in p spaces p.body None)
     ∙ (ap (λ x. sooner x (of_visits p spaces (flat_map (λ (q : Procedure). body_visits q.body) p.procedures))) (in-body p spaces [] false p.body None)

@@ -20,7 +20,13 @@ use Rattle.index_spaces.specs.Placed.{Placed, bare}
 
 -- the segments of the kinds, before any index runs over them
 abbrev pub cuts_given : Input → Spaces
-cuts_given input = record { ao = cut_given input Ao; mo = cut_given input Mo; moa = cut_given input Moa; mob = cut_given input Mob; spans = [] }
+cuts_given input = record {
+  ao = cut_given input Ao;
+  mo = cut_given input Mo;
+  moa = cut_given input Moa;
+  mob = cut_given input Mob;
+  spans = [];
+}
 
 -- the segments between two bounds, none where these aren't there or end behind the kind's last one: such an index is refused
 abbrev pub span_between : (segments : ℕ) → Kind → (lo hi : Option ℕ) → sp.Span
@@ -30,7 +36,8 @@ span_between segments kind (Some lo) (Some hi) = if nat_lt segments hi then sp.S
 
 -- what an index of this range runs over
 abbrev pub span_given : Constants → Spaces → Range → sp.Span
-span_given constants cuts (range.Segments kind lo hi) = span_between (sp.segments_of cuts kind) kind (bound_number constants lo) (bound_number constants hi)
+span_given constants cuts (range.Segments kind lo hi) =
+    span_between (sp.segments_of cuts kind) kind (bound_number constants lo) (bound_number constants hi)
 span_given constants cuts (range.Sub super) = sp.Pieces super
 
 -- what indices run over

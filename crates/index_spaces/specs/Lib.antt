@@ -6,3 +6,4 @@ pub mod Refusing
 pub mod Found
 pub mod Walk
 pub mod Starting
+pub mod Widest

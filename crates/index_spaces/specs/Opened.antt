@@ -2,7 +2,7 @@
 use Rattle.std.specs.Prelude.{List, [], map}
 use Rattle.sial_syntax.specs.declared.array.ArrayDecl.{ArrayDecl}
 use Rattle.sial_syntax.specs.Spaces.{Spaces}
-use Rattle.index_spaces.specs.declared.spaces.Kinds.{Kinds}
+use Rattle.index_spaces.specs.declared.kinds.Kinds.{Kinds}
 use Rattle.index_spaces.specs.declared.span.Span.{Span}
 use Rattle.index_spaces.specs.Placed.{Placed, bare, spans_of}
 

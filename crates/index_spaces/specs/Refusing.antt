@@ -1,5 +1,5 @@
 -- What an input is refused for: the first refusal of four rounds, over indices, arrays, statements and start values.
-use Rattle.std.specs.Prelude.{◌≡◌, ℕ, ◌+◌, ◌-◌, ◌^◌, min, List, [], ◌∷◌, ◌++◌, length, Bool, true, false, ◌==◌, ◌&&◌, ◌||◌, nat_lt, nat_le, if◌then◌else◌, Option, Some, None, option_map, slice_index_or}
+use Rattle.std.specs.Prelude.{◌≡◌, ◌⊎◌, ℕ, ◌+◌, ◌-◌, ◌^◌, min, List, [], ◌∷◌, ◌++◌, length, Bool, true, false, ◌==◌, ◌&&◌, ◌||◌, nat_lt, nat_le, if◌then◌else◌, Option, Some, None, option_map, slice_index_or}
 use Rattle.sial_syntax.specs.declared.array.ArrayDecl.{ArrayDecl}
 use Rattle.sial_syntax.specs.declared.array.ArrayKind.{ArrayKind}
 use Rattle.sial_syntax.specs.declared.array.ArrayKind.TheVariants.{Static, Temp, Local, Distributed, Served}
@@ -44,7 +44,7 @@ abbrev pub or_else : {X : Type 0} → Option X → Option X → Option X
 or_else None other = other
 or_else (Some x) other = Some x
 
--- NoSegment of a range between two numbers: its kind has no segments, it begins at 0, or it ends behind the kind's last segment
+-- NoSegment of a range between numbers: the kind has no segments, the range begins at 0, or it ends behind the kind's last one
 abbrev pub between_refusal : (name : List ℕ) → (segments lo hi : ℕ) → Option SpaceFault
 between_refusal name segments lo hi =
     if (segments == 0) || (lo == 0)
@@ -91,6 +91,10 @@ arrays_refusal spaces before (a ∷ others) = or_else (array_refusal spaces befo
 pub record AtLine : Type 0 where
   pub line : ℕ
   pub fault : SpaceFault
+
+-- a refusal whose value is its line
+abbrev pub told_by_line : SpaceKind → (name : List ℕ) → (line : ℕ) → AtLine
+told_by_line kind name line = record { line = line; fault = record { kind = kind; name = name; value = line } }
 
 -- the number of a kind of refusal
 abbrev pub number_of : SpaceKind → ℕ
@@ -152,11 +156,12 @@ index_name p index = (slice_index_or p.indices index (record { name = []; line =
 -- NotWithin of a statement with an index that isn't within: the value is the line
 abbrev pub outside_refusal : Tree → (line : ℕ) → Option ℕ → Option AtLine
 outside_refusal p line None = None
-outside_refusal p line (Some index) = Some (record { line = line; fault = record { kind = NotWithin; name = index_name p index; value = line } })
+outside_refusal p line (Some index) = Some (told_by_line NotWithin (index_name p index) line)
 
 -- TooManyBlocks of a pardo whose box has so many tuples: it has the name of its first index
 abbrev pub box_refusal : (name : List ℕ) → (line box : ℕ) → Option AtLine
-box_refusal name line box = if nat_lt most_box box then Some (record { line = line; fault = fault TooManyBlocks name box }) else None
+box_refusal name line box =
+    if nat_lt most_box box then Some (record { line = line; fault = fault TooManyBlocks name box }) else None
 
 -- the name of the first of some indices
 abbrev pub first_name : Tree → List ℕ → List ℕ
@@ -175,7 +180,7 @@ statements_refusal p spaces = soonest (λ (v : Visit). statement_refusal p space
 -- BadStart at a line of the input, which is its value
 abbrev pub bad_start : Bool → (line : ℕ) → (name : List ℕ) → Option AtLine
 bad_start true line name = None
-bad_start false line name = Some (record { line = line; fault = record { kind = BadStart; name = name; value = line } })
+bad_start false line name = Some (told_by_line BadStart name line)
 
 -- whether a class is replicated
 abbrev pub is_replicated : ScalarClass → Bool
@@ -200,12 +205,16 @@ may_be_given Local = false
 may_be_given Distributed = false
 may_be_given Served = true
 
+-- whether a number is that of one of an index's segments
+abbrev pub is_segment : Spaces → (index number : ℕ) → Bool
+is_segment spaces i n = nat_le (first_of spaces i) n && nat_lt n (first_of spaces i + count_of spaces i)
+
 -- whether these are segment numbers of some indices, one each
 abbrev pub are_segments : Spaces → (indices numbers : List ℕ) → Bool
 are_segments spaces [] [] = true
 are_segments spaces [] (n ∷ ns) = false
 are_segments spaces (i ∷ is) [] = false
-are_segments spaces (i ∷ is) (n ∷ ns) = (nat_le (first_of spaces i) n && nat_lt n (first_of spaces i + count_of spaces i)) && are_segments spaces is ns
+are_segments spaces (i ∷ is) (n ∷ ns) = is_segment spaces i n && are_segments spaces is ns
 
 -- whether an array has a block of these segments with so many elements, which an input may give
 abbrev pub fits_array : Spaces → ArrayDecl → (segments elements : List ℕ) → Bool
@@ -244,3 +253,7 @@ refusal p classes input = refusal_by p (spaces_by p input) classes input
 -- a fault that only says that memory ran out
 abbrev pub IsNoMemory : SpaceFault → Type 0
 IsNoMemory f = (f.kind ≡ OutOfMemory) × (f.name ≡ []) × (f.value ≡ 0)
+
+-- a fault is this refusal, or says that memory ran out
+abbrev pub IsCause : Option SpaceFault → SpaceFault → Type 0
+IsCause refused f = IsNoMemory f ⊎ (refused ≡ Some f)

@@ -1,6 +1,9 @@
 -- The refusal of statements, looked for one statement after another.
-use Rattle.std.specs.Prelude.{List, [], ◌∷◌, Option}
+use Rattle.std.specs.Prelude.{flat_map, List, [], ◌∷◌, Option}
 use Rattle.sial_syntax.specs.Tree.{Tree, Procedure, Block, End, Then, Plain, Do, DoIn, Pardo, If, IfElse}
+use Rattle.sial_syntax.specs.declared.operand.BlockRef.{BlockRef}
+use Rattle.sial_syntax.specs.declared.operand.Right.{Right}
+use Rattle.sial_syntax.specs.Parts.{operand_block, operands}
 use Rattle.sial_syntax.specs.Spaces.{Spaces}
 use Rattle.index_spaces.specs.Refusing.{AtLine, sooner, statement_refusal}
 
@@ -20,6 +23,10 @@ abbrev mutual
   first_inside p spaces _ first = first
 
 -- the same of procedures
-abbrev pub first_of_procedures : Tree → Spaces → List Procedure → Option AtLine → Option AtLine
-first_of_procedures p spaces [] first = first
-first_of_procedures p spaces (q ∷ qs) first = first_of_procedures p spaces qs (first_in p spaces q.body first)
+abbrev pub first_of_all : Tree → Spaces → List Procedure → Option AtLine → Option AtLine
+first_of_all p spaces [] first = first
+first_of_all p spaces (q ∷ qs) first = first_of_all p spaces qs (first_in p spaces q.body first)
+
+-- the blocks that a right side names
+abbrev pub right_blocks : Right → List BlockRef
+right_blocks right = flat_map operand_block (operands right)

@@ -1,9 +1,9 @@
 //! What an input is refused for.
 
-ghost use Rattle.std.specs.Prelude.{◌≡◌, ◌⊎◌};
+ghost use Rattle.std.specs.Prelude.{◌≡◌, Some};
 ghost use Rattle.index_spaces.specs.Found.{at_line, fault_of, seen_at};
 ghost use Rattle.index_spaces.specs.Refusing as spec;
-ghost use Rattle.index_spaces.specs.Refusing.{IsNoMemory, number_of};
+ghost use Rattle.index_spaces.specs.Refusing.{IsCause, IsNoMemory, number_of};
 
 use sial_syntax::Text;
 use std::alloc::Global;
@@ -53,7 +53,7 @@ pub struct Found<'a> {
 impl Refusal<'_> {
     /// The fault, with a name of its own.
     pub fn told(&self, alloc: Global) -> SpaceFault
-        ensures { IsNoMemory result ⊎ (result ≡ fault_of self.now) }
+        ensures { IsCause (Some (fault_of self.now)) result }
     {
         match Text::from_slice(alloc, self.name) {
             Ok(name) => SpaceFault {

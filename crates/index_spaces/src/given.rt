@@ -8,8 +8,8 @@ ghost use Rattle.index_spaces.specs.Given.{cuts_given};
 ghost use Rattle.index_spaces.specs.Opened.{cuts_of};
 
 use crate::cuts::Cuts;
+use crate::kinds::Kinds;
 use crate::names::same_name;
-use crate::spaces::Kinds;
 use sial_syntax::{Bound, Kind};
 use sip_input::{Constant, Input, PieceLength, SegmentLengths};
 use std::alloc::{AllocError, Global};

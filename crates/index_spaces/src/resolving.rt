@@ -1,15 +1,14 @@
 //! The spaces and the start values of a program and an input.
 
-ghost use Rattle.std.specs.Prelude.{◌≡◌, ◌⊎◌, [], None, Some, map, IfOk, IfErr, OnOk};
-ghost use Rattle.sial_syntax.specs.Proper.{IsProper};
+ghost use Rattle.std.specs.Prelude.{◌≡◌, ◌≤◌, ◌^◌, [], length, None, map, IfOk, IfErr, OnOk};
 ghost use Rattle.sial_syntax.specs.Resolved.{AreSpacesBy};
 ghost use Rattle.sial_syntax.specs.Tree.{tree};
 ghost use Rattle.sip_input.specs.Given.{IsInput, constants_of};
 ghost use Rattle.index_spaces.specs.Found.{seen};
 ghost use Rattle.index_spaces.specs.Given.{blocks_given, numbers_given, placed_by, spaces_by};
-ghost use Rattle.index_spaces.specs.Refusing.{IsNoMemory, arrays_refusal, block_refusal, refusal, refusal_by, soonest};
+ghost use Rattle.index_spaces.specs.Refusing.{IsCause, arrays_refusal, block_refusal, refusal, refusal_by, soonest};
 ghost use Rattle.index_spaces.specs.Placed.{bare};
-ghost use Rattle.index_spaces.specs.Starting.{given_of};
+ghost use Rattle.index_spaces.specs.Starting.{blocks_in};
 
 use crate::arrays::arrays_refused;
 use crate::fault::{Refusal, SpaceFault, no_memory};
@@ -31,19 +30,19 @@ pub fn resolve(
     classes: &Classes,
     input: &Input,
 ) -> Result<(Spaces, Start), SpaceFault>
-    requires proper { IsProper (tree program.now) }
+    requires few { length (tree program.now).arrays ≤ 2 ^ 16 }
     requires input { IsInput input.now }
 
     ensures spaces { IfOk result (λ found. found.0 ≡ placed_by (tree program.now) input.now) }
     ensures numbers { IfOk result (λ found. found.1.scalars.items ≡ numbers_given (tree program.now) input.now) }
-    ensures blocks { IfOk result (λ found. map given_of found.1.blocks.items ≡ blocks_given (tree program.now) found.0.spaces input.now) }
+    ensures blocks { IfOk result (λ found. blocks_in found.1 ≡ blocks_given (tree program.now) found.0.spaces input.now) }
 
     // The spaces are the program's, and nothing is refused.
     ensures own { IfOk result (λ found. AreSpacesBy (constants_of input.now) (tree program.now) found.0.spaces) }
     ensures granted { OnOk result (refusal (tree program.now) classes.now.scalars.items input.now ≡ None) }
 
     // The first refusal of four rounds, or want of memory.
-    ensures fault { IfErr result (λ fault. IsNoMemory fault ⊎ (refusal (tree program.now) classes.now.scalars.items input.now ≡ Some fault)) }
+    ensures fault { IfErr result (IsCause (refusal (tree program.now) classes.now.scalars.items input.now)) }
 {
     let spaces = match opened(alloc, program, input) {
         Ok(spaces) => spaces,
@@ -105,12 +104,12 @@ fn placed(
     program: &Program,
     input: &Input,
 ) -> Result<(Spaces, Start), AllocError>
-    requires proper { IsProper (tree program.now) }
+    requires few { length (tree program.now).arrays ≤ 2 ^ 16 }
     requires arrays { arrays_refusal spaces.spaces [] (tree program.now).arrays ≡ None }
     requires blocks { soonest (block_refusal (tree program.now) spaces.spaces) input.now.blocks.items ≡ None }
     ensures spaces { IfOk result (λ found. found.0 ≡ record { spaces = spaces.spaces; arrays = map bare (tree program.now).arrays }) }
     ensures numbers { IfOk result (λ found. found.1.scalars.items ≡ numbers_given (tree program.now) input.now) }
-    ensures given { IfOk result (λ found. map given_of found.1.blocks.items ≡ blocks_given (tree program.now) spaces.spaces input.now) }
+    ensures given { IfOk result (λ found. blocks_in found.1 ≡ blocks_given (tree program.now) spaces.spaces input.now) }
 {
     let spaces = spaces.with_arrays(alloc, program.arrays.as_slice())?;
     let scalars = numbers(alloc, program.scalars.as_slice(), input.scalars.as_slice())?;

@@ -12,21 +12,13 @@ use crate::blocks::Blocks;
 use crate::boxes::{rank_in, write_tuple};
 use crate::cuts::Cuts;
 use crate::extent::Extent;
+use crate::kinds::Kinds;
 use crate::laying::laid_out;
 use crate::ranges::{box_len, span_at};
 use crate::span::Span;
 use sial_syntax::{ArrayDecl, Kind};
 use std::alloc::{AllocError, Global};
 use std::marker::Model;
-
-/// The segments of the four kinds that an input gives.
-#[derive(Drop)]
-pub struct Kinds {
-    pub ao: Cuts,
-    pub mo: Cuts,
-    pub moa: Cuts,
-    pub mob: Cuts,
-}
 
 /// The segments of the four kinds, what each index runs over, and the blocks of each array. No reader takes memory.
 #[derive(Drop)]
@@ -98,8 +90,8 @@ impl Spaces {
         span_at(self.spans.as_slice(), index)
     }
 
-    // The kind of an index; a subindex has that of its super index.
-    pub(crate) fn kind(&self, index: u16) -> Kind
+    /// The kind of an index; a subindex has that of its super index.
+    pub fn kind(&self, index: u16) -> Kind
         ensures { result ≡ sp.kind_of self.now.spaces index }
     {
         match self.span(index) {
@@ -160,8 +152,8 @@ impl Spaces {
         (segment.start, segment.len)
     }
 
-    // The length of the pieces of a kind's segments.
-    pub(crate) fn piece_len(&self, kind: Kind) -> u32
+    /// The length of the pieces of a kind's segments, 0 where they aren't cut.
+    pub fn piece_len(&self, kind: Kind) -> u32
         ensures value { result ≡ (sp.cut_of self.now.spaces kind).piece }
         ensures short { result ≤ 1024 }
     {

@@ -8,7 +8,7 @@ ghost use Rattle.index_spaces.specs.Opened.{cuts_of};
 ghost use Rattle.index_spaces.specs.Placed.{are_short, is_short, span_of, spans_of};
 
 use crate::given::number_of;
-use crate::spaces::Kinds;
+use crate::kinds::Kinds;
 use crate::span::Span;
 use sial_syntax::{IndexDecl, Kind, Range};
 use sip_input::Constant;
@@ -21,8 +21,8 @@ pub fn spans(
     constants: &[Constant],
     indices: &[IndexDecl],
 ) -> Result<Vec<Span>, AllocError>
-    ensures spans { IfOk result (λ spans. spans_of spans.items ≡ spans_given (named_numbers constants.now) (cuts_of kinds.now) indices.now) }
-    ensures short { IfOk result (λ spans. IsTrue (are_short spans.items)) }
+    ensures spans { IfOk result (λ s. spans_of s.items ≡ spans_given (named_numbers constants.now) (cuts_of kinds.now) indices.now) }
+    ensures short { IfOk result (λ s. IsTrue (are_short s.items)) }
 {
     let mut spans = Vec::with_capacity(alloc, indices.len())?;
     for index in indices {

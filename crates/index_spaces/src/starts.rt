@@ -165,7 +165,7 @@ impl Spaces {
 
     // Whether a number is that of one of an index's segments.
     fn is_segment(&self, index: u16, number: u32) -> bool
-        ensures { result ≡ (nat_le (sp.first_of self.now.spaces index) number && nat_lt number (sp.first_of self.now.spaces index + sp.count_of self.now.spaces index)) }
+        ensures { result ≡ spec.is_segment self.now.spaces index number }
     {
         let (first, count) = self.range(index);
         first <= number && number < first + count

@@ -26,7 +26,7 @@ fn first_of_procedures<'a>(
     procs: &[Proc],
     first: Option<Found<'a>>,
 ) -> Option<Found<'a>>
-    ensures { seen_at result ≡ walk.first_of_procedures (tree program.now) spaces.now.spaces (map procedure procs.now) (seen_at first.entry) }
+    ensures { seen_at result ≡ walk.first_of_all (tree program.now) spaces.now.spaces (map procedure procs.now) (seen_at first.entry) }
 {
     let mut first = first;
     for procedure in procs {

@@ -1,9 +1,9 @@
 //! How wide the blocks of arrays can be, by the lengths of segments and pieces.
 
 ghost use Rattle.std.specs.Prelude.{◌≡◌, ◌+◌, ◌-◌, ◌^◌, ◌<◌, ◌≤◌, map, min};
-ghost use Rattle.sial_syntax.specs.Boxes.{numbers_from};
 ghost use Rattle.sial_syntax.specs.Spaces as sp;
-ghost use Rattle.sial_syntax.specs.Widths.{most_of, widest_block, width_of_span};
+ghost use Rattle.sial_syntax.specs.Widths.{widest_block, width_of_span};
+ghost use Rattle.index_spaces.specs.Widest as spec;
 
 use crate::spaces::Spaces;
 use crate::span::Span;
@@ -41,7 +41,7 @@ impl Spaces {
     #[tactic(auto, using(crate::proofs::WidthLemmas::one_turn))]
     fn widest_segment(&self, kind: Kind, first: u32, count: u32) -> u32
         requires { first + count < 2 ^ 32 }
-        ensures { result ≡ most_of (map (λ k. (sp.segment self.now.spaces kind k).len) (numbers_from first count)) }
+        ensures { result ≡ spec.widest_segment self.now.spaces kind first count }
     {
         let mut widest = 0;
         for k in 0..count {
@@ -54,7 +54,7 @@ impl Spaces {
     #[tactic(auto, using(crate::proofs::WidthLemmas::one_turn))]
     fn widest_piece(&self, kind: Kind, first: u32, count: u32) -> u32
         requires { first + count < 2 ^ 32 }
-        ensures { result ≡ most_of (map (λ k. min (sp.cut_of self.now.spaces kind).piece (sp.segment self.now.spaces kind k).len) (numbers_from first count)) }
+        ensures { result ≡ spec.widest_piece self.now.spaces kind first count }
     {
         let piece = self.piece_len(kind);
         let mut widest = 0;

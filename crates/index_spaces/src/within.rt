@@ -1,11 +1,12 @@
 //! Whether indices lie within the declared ones where a statement names them.
 
-ghost use Rattle.std.specs.Prelude.{◌≡◌, ◌∷◌, ◌++◌, [], flat_map};
+ghost use Rattle.std.specs.Prelude.{◌≡◌, ◌∷◌, ◌++◌, []};
 ghost use Rattle.sial_syntax.specs.Agreeing.{array_in};
-ghost use Rattle.sial_syntax.specs.Parts.{operand_block, operands, target_block};
+ghost use Rattle.sial_syntax.specs.Parts.{operand_block, target_block};
 ghost use Rattle.sial_syntax.specs.Resolved as resolved;
 ghost use Rattle.sial_syntax.specs.Tree.{plain_form, tree};
 ghost use Rattle.index_spaces.specs.Refusing as spec;
+ghost use Rattle.index_spaces.specs.Walk.{right_blocks};
 
 use crate::spaces::Spaces;
 use crate::span::Span;
@@ -99,7 +100,7 @@ fn operand_outside(spaces: &Spaces, program: &Program, operand: &Operand) -> Opt
 // The same of the blocks of a right side.
 #[tactic(auto, using(crate::proofs::WithinLemmas::outside_append))]
 fn right_outside(spaces: &Spaces, program: &Program, right: &Right) -> Option<u16>
-    ensures { result ≡ spec.blocks_outside (tree program.now) spaces.now.spaces (flat_map operand_block (operands right.now)) }
+    ensures { result ≡ spec.blocks_outside (tree program.now) spaces.now.spaces (right_blocks right.now) }
 {
     match right {
         Right::One(operand) => operand_outside(spaces, program, operand),
@@ -128,7 +129,7 @@ fn assignment_outside(
     target: &Target,
     right: &Right,
 ) -> Option<u16>
-    ensures { result ≡ spec.blocks_outside (tree program.now) spaces.now.spaces (target_block target.now ++ flat_map operand_block (operands right.now)) }
+    ensures { result ≡ spec.blocks_outside (tree program.now) spaces.now.spaces (target_block target.now ++ right_blocks right.now) }
 {
     match target_outside(spaces, program, target) {
         Some(index) => Some(index),
