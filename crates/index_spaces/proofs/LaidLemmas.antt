@@ -38,7 +38,7 @@ laid_counts spans before b laid counted =
     (eqb-true b.count (sp.blocks_of (over spans) (decl_of b)) parts.0, eqb-true b.first (sp.blocks_together (over spans) b.kind before) parts.1)
 
 -- a kind that is another, which isn't temp, isn't temp
-not-temp : (x y : ArrayKind) → sp.same_kind x y ≡ true → sp.same_kind y Temp ≡ false → sp.same_kind x Temp ≡ false
+pub not-temp : (x y : ArrayKind) → sp.same_kind x y ≡ true → sp.same_kind y Temp ≡ false → sp.same_kind x Temp ≡ false
 not-temp Static y e f = refl
 not-temp Local y e f = refl
 not-temp Distributed y e f = refl
@@ -50,12 +50,12 @@ not-temp Temp Distributed e f = absurd cc
 not-temp Temp Served e f = absurd cc
 
 -- how many blocks an array has, where it is of a kind
-abbrev blocks_if : Bool → ℕ → ℕ
+abbrev pub blocks_if : Bool → ℕ → ℕ
 blocks_if true n = n
 blocks_if false n = 0
 
 -- the blocks of the arrays of a kind: those of the first, and those of the others
-together-cons : (spaces : sp.Spaces) (kind : ArrayKind) (a : ArrayDecl) (others : List ArrayDecl)
+pub together-cons : (spaces : sp.Spaces) (kind : ArrayKind) (a : ArrayDecl) (others : List ArrayDecl)
     → sp.blocks_together spaces kind (a ∷ others) ≡ blocks_if (sp.same_kind a.kind kind) (sp.blocks_of spaces a) + sp.blocks_together spaces kind others
 together-cons spaces kind a others = by (sp.same_kind a.kind kind)
   where

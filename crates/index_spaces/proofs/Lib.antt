@@ -2,3 +2,11 @@ pub mod BoundLemmas
 pub mod SegmentLemmas
 pub mod LaidLemmas
 pub mod BoxLemmas
+pub mod NameLemmas
+pub mod WidthLemmas
+pub mod CutLemmas
+pub mod WithinLemmas
+pub mod SoonerLemmas
+pub mod WalkLemmas
+pub mod GrantedLemmas
+pub mod OwnLemmas

@@ -7,7 +7,7 @@ use Rattle.std.proofs.lemmas.Bool.Decides.{nat_tests}
 use Rattle.std.proofs.lemmas.List.{map-append, take_more}
 use Rattle.std.proofs.lemmas.List.Sums.{sum_by-cons, sum_by_push}
 use Rattle.sial_syntax.specs.Spaces as sp
-use Rattle.sial_syntax.specs.Spaces.{among}
+use Rattle.sial_syntax.specs.Spaces.{among, length_among}
 use Rattle.index_spaces.specs.declared.extent.Extent.{Extent}
 use Rattle.index_spaces.specs.declared.span.Span.{Span}
 use Rattle.index_spaces.specs.Placed.{extent_of, lengths_of, follow_from, are_near, is_short, are_short}
@@ -32,6 +32,13 @@ length-at : (es : List Extent) (k : ℕ) (e : Extent) → k < length es → e �
 length-at [] k e within at = absurd (omega arith)
 length-at (x ∷ xs) zero e within at = sym (ap (λ (y : Extent). y.len) at)
 length-at (x ∷ xs) (suc k) e within at = length-at xs k e (omega arith) at
+
+-- so it is among them by its number
+pub is_length : (es : List Extent) (number : ℕ) (e : Extent) → 0 < number → number - 1 < length es → e ≡ slice_index_or es (number - 1) e → e.len ≡ length_among (lengths_of es) number
+is_length es number e some within at = by (number - 1) (omega arith) within at
+  where
+    by : (k : ℕ) → number ≡ suc k → k < length es → e ≡ slice_index_or es k e → e.len ≡ length_among (lengths_of es) number
+    by k is within at = sym (length-at es k e within at) ∙ ap (length_among (lengths_of es)) (sym is)
 
 -- a segment among others
 pub is_segment : (es : List Extent) (number k : ℕ) (e : Extent) → IsTrue (follow_from 1 es) → number ≡ suc k → k < length es → e ≡ slice_index_or es k e → extent_of e ≡ among (lengths_of es) number

@@ -2,7 +2,7 @@
 
 ghost use Rattle.std.specs.Prelude.{◌≡◌, ◌<◌, ◌≤◌, ◌^◌, length, IfOk, IsTrue, nat_le};
 ghost use Rattle.std.specs.List.{list_all};
-ghost use Rattle.sial_syntax.specs.Spaces.{among};
+ghost use Rattle.sial_syntax.specs.Spaces.{among, length_among};
 ghost use Rattle.index_spaces.specs.Placed.{extent_of, lengths_of, follow_from, are_near};
 
 use crate::extent::Extent;
@@ -42,9 +42,17 @@ impl Cuts {
 
     /// How many segments there are.
     pub fn count(&self) -> u32
-        ensures { result ≡ length self.now.segments }
+        ensures value { result ≡ length self.now.segments }
+        ensures few { result ≤ 4096 }
     {
         self.segments.len() as u32
+    }
+
+    /// The length of a segment, 0 where none has this number.
+    pub fn len_at(&self, number: u32) -> u32
+        ensures { result ≡ length_among self.now.segments number }
+    {
+        len_among(self.segments.as_slice(), number)
     }
 
     /// A segment, numbered from 1.
@@ -64,6 +72,20 @@ impl Cuts {
         ensures short { result ≤ 1024 }
     {
         self.piece
+    }
+}
+
+// The length of a segment among some, 0 where none has this number.
+#[tactic(auto, using(crate::proofs::SegmentLemmas::is_length))]
+fn len_among(segments: &[Extent], number: u32) -> u32
+    ensures { result ≡ length_among (lengths_of segments.now) number }
+{
+    if number == 0 {
+        return 0;
+    }
+    match segments.get(number as usize - 1) {
+        Some(segment) => segment.len,
+        None => 0,
     }
 }
 

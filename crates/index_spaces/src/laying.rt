@@ -58,8 +58,8 @@ fn kept(kind: ArrayKind, blocks: &[Blocks]) -> u32
     total
 }
 
-// Whether two kinds of array are one.
-fn is_kind(kind: ArrayKind, other: ArrayKind) -> bool
+/// Whether two kinds of array are one.
+pub fn is_kind(kind: ArrayKind, other: ArrayKind) -> bool
     ensures { result ≡ sp.same_kind kind other }
 {
     matches!(

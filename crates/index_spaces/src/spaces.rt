@@ -1,17 +1,18 @@
 //! The spaces of a program, index by index.
 
-ghost use Rattle.std.specs.Prelude.{◌≡◌, ◌-◌, ◌^◌, ◌<◌, ◌≤◌, length, min, false, IfOk, IsTrue};
+ghost use Rattle.std.specs.Prelude.{◌≡◌, ◌+◌, ◌-◌, ◌^◌, ◌<◌, ◌≤◌, length, min, false, map, IfOk, IsTrue};
 ghost use Rattle.sial_syntax.specs.BoxLaws.{AreSegments};
 ghost use Rattle.sial_syntax.specs.Boxes.{volume};
 ghost use Rattle.sial_syntax.specs.Spaces as sp;
 ghost use Rattle.index_spaces.specs.Opened.{placed};
 ghost use Rattle.index_spaces.specs.Laid.{AreFewTogether, are_few};
-ghost use Rattle.index_spaces.specs.Placed.{are_short, array_among, extent_of, is_temp, pair_of, span_of, spans_of};
+ghost use Rattle.index_spaces.specs.Placed.{are_short, array_among, bare, is_short, extent_of, is_temp, pair_of, span_of, spans_of};
 
 use crate::blocks::Blocks;
 use crate::boxes::{rank_in, write_tuple};
 use crate::cuts::Cuts;
 use crate::extent::Extent;
+use crate::kinds::Kinds;
 use crate::laying::laid_out;
 use crate::ranges::{box_len, span_at};
 use crate::span::Span;
@@ -19,22 +20,13 @@ use sial_syntax::{ArrayDecl, Kind};
 use std::alloc::{AllocError, Global};
 use std::marker::Model;
 
-/// The segments of the four kinds that an input gives.
-#[derive(Drop)]
-pub struct Kinds {
-    pub ao: Cuts,
-    pub mo: Cuts,
-    pub moa: Cuts,
-    pub mob: Cuts,
-}
-
 /// The segments of the four kinds, what each index runs over, and the blocks of each array. No reader takes memory.
 #[derive(Drop)]
 pub struct Spaces {
-    ao: Cuts,
-    mo: Cuts,
-    moa: Cuts,
-    mob: Cuts,
+    pub(crate) ao: Cuts,
+    pub(crate) mo: Cuts,
+    pub(crate) moa: Cuts,
+    pub(crate) mob: Cuts,
     spans: Vec<Span>,
     blocks: Vec<Blocks>,
 }
@@ -76,15 +68,30 @@ impl Spaces {
         })
     }
 
+    /// The same spaces, with the blocks of these arrays.
+    pub(crate) fn with_arrays(
+        self,
+        alloc: Global,
+        arrays: &[ArrayDecl],
+    ) -> Result<Spaces, AllocError>
+        requires few { IsTrue (are_few self.spaces.spans arrays.now) }
+        requires together { AreFewTogether self.spaces.spans arrays.now }
+        ensures { IfOk result (λ s. s ≡ record { spaces = self.spaces; arrays = map bare arrays.now }) }
+    {
+        let blocks = laid_out(alloc, self.spans.as_slice(), arrays)?;
+        Ok(Spaces { blocks, ..self })
+    }
+
     // What an index runs over.
-    fn span(&self, index: u16) -> Span
-        ensures { span_of result ≡ sp.span_of self.now.spaces index }
+    pub(crate) fn span(&self, index: u16) -> Span
+        ensures span { span_of result ≡ sp.span_of self.now.spaces index }
+        ensures short { IsTrue (is_short result) }
     {
         span_at(self.spans.as_slice(), index)
     }
 
-    // The kind of an index; a subindex has that of its super index.
-    fn kind(&self, index: u16) -> Kind
+    /// The kind of an index; a subindex has that of its super index.
+    pub fn kind(&self, index: u16) -> Kind
         ensures { result ≡ sp.kind_of self.now.spaces index }
     {
         match self.span(index) {
@@ -107,6 +114,7 @@ impl Spaces {
     pub fn range(&self, index: u16) -> (u32, u32)
         ensures first { result.0 ≡ sp.first_of self.now.spaces index }
         ensures count { result.1 ≡ sp.count_of self.now.spaces index }
+        ensures short { result.0 + result.1 < 2 ^ 32 }
     {
         match self.span(index) {
             Span::Segments { first, count, .. } => (first, count),
@@ -144,8 +152,8 @@ impl Spaces {
         (segment.start, segment.len)
     }
 
-    // The length of the pieces of a kind's segments.
-    fn piece_len(&self, kind: Kind) -> u32
+    /// The length of the pieces of a kind's segments, 0 where they aren't cut.
+    pub fn piece_len(&self, kind: Kind) -> u32
         ensures value { result ≡ (sp.cut_of self.now.spaces kind).piece }
         ensures short { result ≤ 1024 }
     {

@@ -4,6 +4,12 @@
 #[cfg(test)]
 mod building;
 #[cfg(test)]
+mod inputs;
+#[cfg(test)]
+mod resolved;
+#[cfg(test)]
 mod segments;
 #[cfg(test)]
 mod shape_faults;
+#[cfg(test)]
+mod space_faults;
