@@ -4,4 +4,12 @@
 #[cfg(test)]
 mod faults;
 #[cfg(test)]
+mod limits;
+#[cfg(test)]
+mod refusals;
+#[cfg(test)]
+mod texts;
+#[cfg(test)]
 mod tokens;
+#[cfg(test)]
+mod worked;
