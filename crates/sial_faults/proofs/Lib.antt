@@ -1,0 +1,13 @@
+pub mod Agreeing
+pub mod AgreeLists
+pub mod AgreeOperands
+pub mod AgreeEnds
+pub mod AgreeStatements
+pub mod Counts
+pub mod AgreeBodies
+pub mod AgreePrograms
+pub mod AgreeProcedures
+pub mod Strict
+pub mod Forms
+pub mod Standing
+pub mod TextFaults

@@ -1,0 +1,82 @@
+-- The first fault of a text.
+use Rattle.std.proofs.Common.{◌≡◌, ℕ, List, [], ◌∷◌, ◌++◌, Bool, true, false, map, Option, Some, None, Result, Ok, Err, refl, sym, ap, ◌∙◌}
+use Rattle.std.specs.List.{slice_range}
+use Rattle.sial_lexer.proofs.WholeLemmas.{tokens_read}
+use Rattle.sial_lexer.specs.Characters.{folded}
+use Rattle.sial_lexer.specs.declared.token.Token.{Token}
+use Rattle.sial_lexer.specs.declared.token.TokenKind.{TokenKind}
+use Rattle.sial_lexer.specs.declared.token.TokenKind.TheVariants as token
+use Rattle.sial_syntax.specs.Tree.{Tree}
+use Rattle.sial_parser.specs.Parsing.{is_end, read_program, after_strict, last_fault, program_of}
+use Rattle.sial_parser.specs.Whole.{parse_tokens}
+use Rattle.sial_parser.specs.Words.{words_of, word_of, symbol_of, name_or_key, sign_or_end, entry_of, keywords, signs, last_line}
+use Rattle.sial_parser.specs.declared.fault.ParseFault.{ParseFault}
+use Rattle.sial_parser.specs.declared.keyword.Keyword.{Keyword}
+use Rattle.sial_parser.specs.declared.sign.Sign.{Sign}
+use Rattle.sial_parser.specs.declared.word.Symbol.TheVariants.{End}
+use Rattle.sial_parser.specs.declared.word.Word.{Word}
+use Rattle.sial_parser.proofs.ProgramAgain.{program_again}
+use Rattle.sial_faults.specs.Faults.{Past, at_start, at_text_end, first_fault, fault_at, past_after}
+use Rattle.sial_faults.specs.Laws.{fault_in, any_name, FirstIsTold, FirstStands, ProgramsHaveForm}
+use Rattle.sial_faults.specs.Parts.{Part, after, AreParts, program}
+use Rattle.sial_faults.specs.Places.{EndsWell}
+use Rattle.sial_faults.proofs.AgreeProcedures.{meets_first}
+use Rattle.sial_faults.proofs.Standing.{end_some, going, stands_at}
+use Rattle.sial_faults.proofs.Strict.{read_none}
+
+-- no token is the end of the text
+key_no_end : (name : List ℕ) (k : Option Keyword) → is_end (name_or_key name k) ≡ false
+key_no_end name None = refl
+key_no_end name (Some k) = refl
+
+sign_no_end : (s : Option Sign) → is_end (sign_or_end s) ≡ false
+sign_no_end None = refl
+sign_no_end (Some s) = refl
+
+symbol_no_end : (kind : TokenKind) (bytes : List ℕ) → is_end (symbol_of kind bytes) ≡ false
+symbol_no_end token.Name bytes = key_no_end (folded bytes) (entry_of keywords (folded bytes))
+symbol_no_end (token.Number value) bytes = refl
+symbol_no_end token.Quoted bytes = refl
+symbol_no_end token.Sign bytes = sign_no_end (entry_of signs bytes)
+symbol_no_end token.LineEnd bytes = refl
+
+pushed : (w : Word) (ws : List Word) → is_end w.symbol ≡ false → EndsWell ws → EndsWell (w ∷ ws)
+pushed w [] e h = absurd h
+pushed w (v ∷ ws) e h = (e, h)
+
+end_well : (text : List ℕ) (tokens : List Token) (end : Word) → is_end end.symbol ≡ true → EndsWell (map (word_of text) tokens ++ end ∷ [])
+end_well text [] end e = e
+end_well text (t ∷ ts) end e = pushed (word_of text t) (map (word_of text) ts ++ end ∷ []) (symbol_no_end t.kind (slice_range text t.start t.end)) (end_well text ts end e)
+
+pub words_end : (text : List ℕ) (tokens : List Token) → EndsWell (words_of text tokens)
+words_end text tokens = end_well text tokens (record { line = last_line text; symbol = End }) refl
+
+-- a fault that comes first is told
+last_told : (fault g : ParseFault) (r : Result Tree ParseFault) → fault_in r ≡ Some g → last_fault fault r ≡ Err g
+last_told fault g (Ok p) e = absurd cc
+last_told fault g (Err other) e = ap Err (let h : other ≡ g = cc in h)
+
+strict_told : (ws : List Word) (g : ParseFault) (r : Result Tree ParseFault) → first_fault any_name at_start program ws ≡ Some g → read_program true ws ≡ r → after_strict ws r ≡ Err g
+strict_told ws g (Ok p) e f = absurd (let h : ◌≡◌ {A = Option ParseFault} None (Some g) = sym (read_none ws p f) ∙ e in cc)
+strict_told ws g (Err fault) e f = last_told fault g (read_program false ws) (sym (meets_first ws) ∙ e)
+
+pub words_told : (ws : List Word) (g : ParseFault) → first_fault any_name at_start program ws ≡ Some g → program_of ws ≡ Err g
+words_told ws g e = strict_told ws g (read_program true ws) e refl
+
+pub first_is_told : FirstIsTold
+first_is_told text tokens fault has e = ap (parse_tokens text) (tokens_read text tokens has) ∙ words_told (words_of text tokens) fault e
+
+pub first_stands : FirstStands
+first_stands text tokens fault has e = stands_at (words_of text tokens) fault (words_end text tokens) e
+
+-- words without a fault have the form of what is due
+pub have_form : (callable : (name : List ℕ) → Bool) (ws : List Word) (past : Past) (parts : List Part) → first_fault callable past parts ws ≡ None → AreParts parts ws
+have_form callable [] past [] e = AreParts.none
+have_form callable [] past (p ∷ ps) e = absurd cc
+have_form callable (w ∷ ws) past [] e = absurd cc
+have_form callable (w ∷ ws) past (p ∷ ps) e =
+    let g = going w.line (at_text_end p ws (after p w.symbol)) (fault_at callable past p w.line w.symbol ws) (λ more. first_fault callable (past_after p w.symbol past) (more ++ ps) ws) e in
+    AreParts.next (end_some p ws (after p w.symbol) g.more g.is) (have_form callable ws (past_after p w.symbol past) (g.more ++ ps) g.goes)
+
+pub programs_have_form : ProgramsHaveForm
+programs_have_form p ws h = have_form any_name ws at_start program (read_none ws p (program_again p ws h))
