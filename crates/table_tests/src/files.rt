@@ -28,8 +28,8 @@ pub fn fault_of(alloc: Global, bytes: &[u8]) -> Option<TableFault> {
     }
 }
 
-// The file of some tables.
-fn written(alloc: Global, tables: &Tables) -> Result<Vec<u8>, Fail> {
+/// The file of some tables.
+pub fn written(alloc: Global, tables: &Tables) -> Result<Vec<u8>, Fail> {
     let mut sink = MemorySink::new(alloc);
     encode(tables, &mut sink)
         .ok()

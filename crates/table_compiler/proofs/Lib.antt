@@ -1,0 +1,3 @@
+pub mod GrownLemmas
+pub mod ProgramLemmas
+pub mod NameLemmas
