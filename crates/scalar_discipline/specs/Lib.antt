@@ -1,0 +1,3 @@
+pub mod Discipline
+pub mod Calls
+pub mod Rounds
