@@ -30,19 +30,25 @@ fn time(rt: &HostRuntime, name: &str) -> io::Result<()> {
 fn time_text(rt: &HostRuntime, text: &[u8]) -> io::Result<()> {
     let start = Instant::now(rt)?;
     let tokens = match lex(rt.alloc(), text) {
-        Ok(tokens) => tokens.len(),
+        Ok(tokens) => tokens.len() as usize,
         Err(_) => 0,
     };
     report(rt, "lex", text, start, tokens)?;
     let start = Instant::now(rt)?;
     let statements = match parse(rt.alloc(), text) {
-        Ok(program) => program.body.len() as u32,
+        Ok(program) => program.body.len(),
         Err(_) => 0,
     };
     report(rt, "parse", text, start, statements)
 }
 
-fn report(rt: &HostRuntime, call: &str, text: &[u8], start: Instant, count: u32) -> io::Result<()> {
+fn report(
+    rt: &HostRuntime,
+    call: &str,
+    text: &[u8],
+    start: Instant,
+    count: usize,
+) -> io::Result<()> {
     let took = start.elapsed(rt)?;
     println!(rt; "{call} {} {} {count}", text.len(), took.as_nanos())
 }
