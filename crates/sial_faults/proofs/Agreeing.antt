@@ -10,8 +10,9 @@ use Rattle.sial_parser.specs.declared.thing.Thing.TheVariants.{Index, Array, Sca
 use Rattle.sial_parser.specs.declared.word.Symbol.{Symbol}
 use Rattle.sial_parser.specs.declared.word.Symbol.TheVariants.{Key, Sign, Name, Number, Quoted, LineEnd, End}
 use Rattle.sial_parser.specs.declared.word.Word.{Word}
-use Rattle.sial_faults.specs.Faults.{Past, fits, unless, told, at_text_end, first_fault, fault_at, past_after}
-use Rattle.sial_faults.specs.Parts.{Part, Fixed, Asked, an_index, an_array, a_scalar, a_scalar_or_array, an_index_or_scalar, says, where_so, after}
+use Rattle.sial_faults.specs.Faults.{Past, fits, unless, told, at_text_end, checked, fault_at, past_after}
+use Rattle.sial_faults.specs.Forms.{says, where_so, after}
+use Rattle.sial_faults.specs.Parts.{Part, Fixed, Asked, an_index, an_array, a_scalar, a_scalar_or_array, an_index_or_scalar}
 use Rattle.sial_faults.specs.Parts as part
 
 -- what a name is declared as, procedures left out
@@ -135,35 +136,35 @@ only_names p _ ws h e = absurd (let k : ◌≡◌ {A = Bool} false true = h in c
 
 module _ (callable : (name : List ℕ) → Bool) where
   -- what an answer says of a first fault
-  abbrev pub Agrees : {A : Type 0} → (first : Option ParseFault) → (A → Past) → (A → List Part) → Read A → Type 0
-  Agrees first later parts (Ok x) = first ≡ first_fault callable (later x.0) (parts x.0) x.1
-  Agrees first later parts (Err fault) = first ≡ Some fault
+  abbrev pub Agrees : {A : Type 0} → (first : Result Past ParseFault) → (A → Past) → (A → List Part) → Read A → Type 0
+  Agrees first later parts (Ok x) = first ≡ checked callable (later x.0) (parts x.0) x.1
+  Agrees first later parts (Err fault) = first ≡ Err fault
 
   -- one reading behind another
-  pub then_agrees : {A B : Type 0} (first : Option ParseFault) (between : A → Past) (parts : A → List Part) (later : B → Past) (last : B → List Part) (r : Read A) (go : A → List Word → Read B)
-      → Agrees first between parts r → ((x : A) (ws : List Word) → Agrees (first_fault callable (between x) (parts x) ws) later last (go x ws)) → Agrees first later last (r >>= λ y. go y.0 y.1)
-  then_agrees first between parts later last (Ok y) go h k = subst (λ (t : Option ParseFault). Agrees t later last (go y.0 y.1)) (sym h) (k y.0 y.1)
+  pub then_agrees : {A B : Type 0} (first : Result Past ParseFault) (between : A → Past) (parts : A → List Part) (later : B → Past) (last : B → List Part) (r : Read A) (go : A → List Word → Read B)
+      → Agrees first between parts r → ((x : A) (ws : List Word) → Agrees (checked callable (between x) (parts x) ws) later last (go x ws)) → Agrees first later last (r >>= λ y. go y.0 y.1)
+  then_agrees first between parts later last (Ok y) go h k = subst (λ (t : Result Past ParseFault). Agrees t later last (go y.0 y.1)) (sym h) (k y.0 y.1)
   then_agrees first between parts later last (Err fault) go h k = h
 
   module _ {B : Type 0} (later : B → Past) (last : B → List Part) where
     -- a word that has to be just so
-    skip_by : (b : Bool) (past : Past) (parts : List Part) (w : Word) (ws : List Word) (go : List Word → Read B) → Agrees (first_fault callable past parts ws) later last (go ws)
-        → Agrees (told w.line (where_so b []) None (λ more. first_fault callable past (more ++ parts) ws)) later last (cond b (Ok ws) (unexpected (w ∷ ws)) >>= go)
+    skip_by : (b : Bool) (past : Past) (parts : List Part) (w : Word) (ws : List Word) (go : List Word → Read B) → Agrees (checked callable past parts ws) later last (go ws)
+        → Agrees (told w.line (where_so b []) None (λ more. checked callable past (more ++ parts) ws)) later last (cond b (Ok ws) (unexpected (w ∷ ws)) >>= go)
     skip_by true past parts w ws go h = h
     skip_by false past parts w ws go h = refl
 
-    pub skip_agrees : (one : Fixed) (past : Past) (parts : List Part) (ws : List Word) (go : List Word → Read B) → ((rest : List Word) → Agrees (first_fault callable past parts rest) later last (go rest))
-        → Agrees (first_fault callable past (part.fixed one ∷ parts) ws) later last (skip (says one) ws >>= go)
+    pub skip_agrees : (one : Fixed) (past : Past) (parts : List Part) (ws : List Word) (go : List Word → Read B) → ((rest : List Word) → Agrees (checked callable past parts rest) later last (go rest))
+        → Agrees (checked callable past (part.fixed one ∷ parts) ws) later last (skip (says one) ws >>= go)
     skip_agrees one past parts [] go h = refl
     skip_agrees one past parts (w ∷ ws) go h = skip_by (says one w.symbol) past parts w ws go (h ws)
 
     -- a name
-    not_so : (p : Part) (past : Past) (parts : List Part) (l : ℕ) (what : Symbol) (ws : List Word) → takes_names p ≡ true → is_name what ≡ false → first_fault callable past (p ∷ parts) (at l what ∷ ws) ≡ Some (Expected l)
-    not_so p past parts l what ws h e = ap (λ more. told l more (fault_at callable past p l what ws) (λ more. first_fault callable (past_after p what past) (more ++ parts) ws)) (only_names p what ws h e)
+    not_so : (p : Part) (past : Past) (parts : List Part) (l : ℕ) (what : Symbol) (ws : List Word) → takes_names p ≡ true → is_name what ≡ false → checked callable past (p ∷ parts) (at l what ∷ ws) ≡ Err (Expected l)
+    not_so p past parts l what ws h e = ap (λ more. told l more (fault_at callable past p l what ws) (λ more. checked callable (past_after p what past) (more ++ parts) ws)) (only_names p what ws h e)
 
     name_at : (p : Part) (past : Past) (parts : List Part) (l : ℕ) (what : Symbol) (ws : List Word) (go : (line : ℕ) → List ℕ → List Word → Read B) → takes_names p ≡ true
-        → ((l : ℕ) (x : List ℕ) (ws : List Word) → Agrees (first_fault callable past (p ∷ parts) (at l (Name x) ∷ ws)) later last (go l x ws))
-        → Agrees (first_fault callable past (p ∷ parts) (at l what ∷ ws)) later last (name_by what (at l what) ws >>= λ y. go l y.0 y.1)
+        → ((l : ℕ) (x : List ℕ) (ws : List Word) → Agrees (checked callable past (p ∷ parts) (at l (Name x) ∷ ws)) later last (go l x ws))
+        → Agrees (checked callable past (p ∷ parts) (at l what ∷ ws)) later last (name_by what (at l what) ws >>= λ y. go l y.0 y.1)
     name_at p past parts l (Name x) ws go h k = k l x ws
     name_at p past parts l (Key x) ws go h k = not_so p past parts l (Key x) ws h refl
     name_at p past parts l (Sign x) ws go h k = not_so p past parts l (Sign x) ws h refl
@@ -173,43 +174,43 @@ module _ (callable : (name : List ℕ) → Bool) where
     name_at p past parts l End ws go h k = not_so p past parts l End ws h refl
 
     pub name_agrees : (p : Part) (past : Past) (parts : List Part) (ws : List Word) (go : (line : ℕ) → List ℕ → List Word → Read B) → takes_names p ≡ true
-        → ((l : ℕ) (x : List ℕ) (ws : List Word) → Agrees (first_fault callable past (p ∷ parts) (at l (Name x) ∷ ws)) later last (go l x ws))
-        → Agrees (first_fault callable past (p ∷ parts) ws) later last (name ws >>= λ y. go (line_of ws) y.0 y.1)
+        → ((l : ℕ) (x : List ℕ) (ws : List Word) → Agrees (checked callable past (p ∷ parts) (at l (Name x) ∷ ws)) later last (go l x ws))
+        → Agrees (checked callable past (p ∷ parts) ws) later last (name ws >>= λ y. go (line_of ws) y.0 y.1)
     name_agrees p past parts [] go h k = refl
     name_agrees p past parts (w ∷ ws) go h k = name_at p past parts w.line w.symbol ws go h k
 
     -- one of two
-    pub choice_agrees : (b : Bool) (past : Past) (p q : List Part) (ws : List Word) (f g : Read B) → Agrees (first_fault callable past p ws) later last f → Agrees (first_fault callable past q ws) later last g
-        → Agrees (first_fault callable past (cond b p q) ws) later last (cond b f g)
+    pub choice_agrees : (b : Bool) (past : Past) (p q : List Part) (ws : List Word) (f g : Read B) → Agrees (checked callable past p ws) later last f → Agrees (checked callable past q ws) later last g
+        → Agrees (checked callable past (cond b p q) ws) later last (cond b f g)
     choice_agrees true past p q ws f g h k = h
     choice_agrees false past p q ws f g h k = k
 
     -- a name that is looked up
-    pub look_agrees : {A : Type 0} (b : Bool) (l : ℕ) (r : Result A ParseFault) → LookAt b l r → (next : Option ParseFault) (go_on : List Part → Option ParseFault) (more : List Part) (go : A → Read B)
+    pub look_agrees : {A : Type 0} (b : Bool) (l : ℕ) (r : Result A ParseFault) → LookAt b l r → (next : Option ParseFault) (go_on : List Part → Result Past ParseFault) (more : List Part) (go : A → Read B)
         → ((i : A) → r ≡ Ok i → Agrees (told l (Some more) next go_on) later last (go i)) → Agrees (told l (Some more) (unless b (Undeclared l) next) go_on) later last (r >>= go)
     look_agrees true l (Ok i) look next go_on more go h = h i refl
-    look_agrees false l (Err fault) look next go_on more go h = ap Some (sym look)
+    look_agrees false l (Err fault) look next go_on more go h = ap Err (sym look)
     look_agrees true l (Err fault) look next go_on more go h = absurd look
     look_agrees false l (Ok i) look next go_on more go h = absurd look
 
     -- the same, where what is found goes with the words behind
-    pub found_agrees : {A : Type 0} (b : Bool) (l : ℕ) (r : Result A ParseFault) → LookAt b l r → (next : Option ParseFault) (go_on : List Part → Option ParseFault) (more : List Part) (ws : List Word) (go : A → List Word → Read B)
+    pub found_agrees : {A : Type 0} (b : Bool) (l : ℕ) (r : Result A ParseFault) → LookAt b l r → (next : Option ParseFault) (go_on : List Part → Result Past ParseFault) (more : List Part) (ws : List Word) (go : A → List Word → Read B)
         → ((i : A) → r ≡ Ok i → Agrees (told l (Some more) next go_on) later last (go i ws)) → Agrees (told l (Some more) (unless b (Undeclared l) next) go_on) later last (◌>>=◌ {A = A × List Word} (r >>= λ i. Ok (i, ws)) (λ y. go y.0 y.1))
     found_agrees true l (Ok i) look next go_on more ws go h = h i refl
-    found_agrees false l (Err fault) look next go_on more ws go h = ap Some (sym look)
+    found_agrees false l (Err fault) look next go_on more ws go h = ap Err (sym look)
     found_agrees true l (Err fault) look next go_on more ws go h = absurd look
     found_agrees false l (Ok i) look next go_on more ws go h = absurd look
 
     -- an index, and what is read behind it
     module _ (s : Scope) (past : Past) (alike : AreAlike s past.scope) where
       index_at : (p : Part) (parts : List Part) (l : ℕ) (what : Symbol) (ws : List Word) (go : (line : ℕ) → ℕ → List Word → Read B) (next : (line : ℕ) → Option ParseFault) (more : List ℕ → List Part) → takes_names p ≡ true
-          → ((l : ℕ) (x : List ℕ) (ws : List Word) → first_fault callable past (p ∷ parts) (at l (Name x) ∷ ws) ≡ told l (Some (more x)) (unless (fits an_index (thing_of past.scope x)) (Undeclared l) (next l)) (λ more. first_fault callable past (more ++ parts) ws))
-          → ((l i : ℕ) (x : List ℕ) (ws : List Word) → index_by l (thing_of s x) ≡ Ok i → Agrees (told l (Some (more x)) (next l) (λ more. first_fault callable past (more ++ parts) ws)) later last (go l i ws))
-          → Agrees (first_fault callable past (p ∷ parts) (at l what ∷ ws)) later last (index s (at l what ∷ ws) >>= λ y. go l y.0 y.1)
+          → ((l : ℕ) (x : List ℕ) (ws : List Word) → checked callable past (p ∷ parts) (at l (Name x) ∷ ws) ≡ told l (Some (more x)) (unless (fits an_index (thing_of past.scope x)) (Undeclared l) (next l)) (λ more. checked callable past (more ++ parts) ws))
+          → ((l i : ℕ) (x : List ℕ) (ws : List Word) → index_by l (thing_of s x) ≡ Ok i → Agrees (told l (Some (more x)) (next l) (λ more. checked callable past (more ++ parts) ws)) later last (go l i ws))
+          → Agrees (checked callable past (p ∷ parts) (at l what ∷ ws)) later last (index s (at l what ∷ ws) >>= λ y. go l y.0 y.1)
       unfolding index
       index_at p parts l (Name x) ws go next more h is k =
-          subst (λ (t : Option ParseFault). Agrees t later last (◌>>=◌ {A = ℕ × List Word} (index_by l (thing_of s x) >>= λ i. Ok (i, ws)) (λ y. go l y.0 y.1))) (sym (is l x ws))
-          (found_agrees (fits an_index (thing_of past.scope x)) l (index_by l (thing_of s x)) (look_alike index_by an_index looks_index s past.scope alike l x) (next l) (λ more. first_fault callable past (more ++ parts) ws) (more x) ws (λ i ws. go l i ws)
+          subst (λ (t : Result Past ParseFault). Agrees t later last (◌>>=◌ {A = ℕ × List Word} (index_by l (thing_of s x) >>= λ i. Ok (i, ws)) (λ y. go l y.0 y.1))) (sym (is l x ws))
+          (found_agrees (fits an_index (thing_of past.scope x)) l (index_by l (thing_of s x)) (look_alike index_by an_index looks_index s past.scope alike l x) (next l) (λ more. checked callable past (more ++ parts) ws) (more x) ws (λ i ws. go l i ws)
           (λ i e. k l i x ws e))
       index_at p parts l (Key x) ws go next more h is k = not_so p past parts l (Key x) ws h refl
       index_at p parts l (Sign x) ws go next more h is k = not_so p past parts l (Sign x) ws h refl
@@ -219,9 +220,9 @@ module _ (callable : (name : List ℕ) → Bool) where
       index_at p parts l End ws go next more h is k = not_so p past parts l End ws h refl
 
       pub index_then : (p : Part) (parts : List Part) (ws : List Word) (go : (line : ℕ) → ℕ → List Word → Read B) (next : (line : ℕ) → Option ParseFault) (more : List ℕ → List Part) → takes_names p ≡ true
-          → ((l : ℕ) (x : List ℕ) (ws : List Word) → first_fault callable past (p ∷ parts) (at l (Name x) ∷ ws) ≡ told l (Some (more x)) (unless (fits an_index (thing_of past.scope x)) (Undeclared l) (next l)) (λ more. first_fault callable past (more ++ parts) ws))
-          → ((l i : ℕ) (x : List ℕ) (ws : List Word) → index_by l (thing_of s x) ≡ Ok i → Agrees (told l (Some (more x)) (next l) (λ more. first_fault callable past (more ++ parts) ws)) later last (go l i ws))
-          → Agrees (first_fault callable past (p ∷ parts) ws) later last (index s ws >>= λ y. go (line_of ws) y.0 y.1)
+          → ((l : ℕ) (x : List ℕ) (ws : List Word) → checked callable past (p ∷ parts) (at l (Name x) ∷ ws) ≡ told l (Some (more x)) (unless (fits an_index (thing_of past.scope x)) (Undeclared l) (next l)) (λ more. checked callable past (more ++ parts) ws))
+          → ((l i : ℕ) (x : List ℕ) (ws : List Word) → index_by l (thing_of s x) ≡ Ok i → Agrees (told l (Some (more x)) (next l) (λ more. checked callable past (more ++ parts) ws)) later last (go l i ws))
+          → Agrees (checked callable past (p ∷ parts) ws) later last (index s ws >>= λ y. go (line_of ws) y.0 y.1)
       unfolding index
       index_then p parts [] go next more h is k = refl
       index_then p parts (w ∷ ws) go next more h is k = index_at p parts w.line w.symbol ws go next more h is k
@@ -229,19 +230,19 @@ module _ (callable : (name : List ℕ) → Bool) where
   -- an index, an array, a scalar
   module _ (s : Scope) (past : Past) (alike : AreAlike s past.scope) (parts : List Part) where
     asked_agrees : {A : Type 0} (look : (line : ℕ) → Option Thing → Result A ParseFault) (a : Asked) → Looks look a → (ws : List Word)
-        → Agrees (first_fault callable past (part.asked a ∷ parts) ws) (λ x. past) (λ x. parts) (name ws >>= λ x. look (line_of ws) (thing_of s x.0) >>= λ i. Ok (i, x.1))
+        → Agrees (checked callable past (part.asked a ∷ parts) ws) (λ x. past) (λ x. parts) (name ws >>= λ x. look (line_of ws) (thing_of s x.0) >>= λ i. Ok (i, x.1))
     asked_agrees look a looks ws =
         name_agrees (λ x. past) (λ x. parts) (part.asked a) past parts ws (λ l x ws. look l (thing_of s x) >>= λ i. Ok (i, ws)) refl
-        (λ l x ws. look_agrees (λ x. past) (λ x. parts) (fits a (thing_of past.scope x)) l (look l (thing_of s x)) (look_alike look a looks s past.scope alike l x) None (λ more. first_fault callable past (more ++ parts) ws) [] (λ i. Ok (i, ws)) (λ i e. refl))
+        (λ l x ws. look_agrees (λ x. past) (λ x. parts) (fits a (thing_of past.scope x)) l (look l (thing_of s x)) (look_alike look a looks s past.scope alike l x) None (λ more. checked callable past (more ++ parts) ws) [] (λ i. Ok (i, ws)) (λ i e. refl))
 
-    pub index_agrees : (ws : List Word) → Agrees (first_fault callable past (part.asked an_index ∷ parts) ws) (λ x. past) (λ x. parts) (index s ws)
+    pub index_agrees : (ws : List Word) → Agrees (checked callable past (part.asked an_index ∷ parts) ws) (λ x. past) (λ x. parts) (index s ws)
     unfolding index
     index_agrees ws = asked_agrees index_by an_index looks_index ws
 
-    pub array_agrees : (ws : List Word) → Agrees (first_fault callable past (part.asked an_array ∷ parts) ws) (λ x. past) (λ x. parts) (array s ws)
+    pub array_agrees : (ws : List Word) → Agrees (checked callable past (part.asked an_array ∷ parts) ws) (λ x. past) (λ x. parts) (array s ws)
     unfolding array
     array_agrees ws = asked_agrees array_by an_array looks_array ws
 
-    pub scalar_agrees : (ws : List Word) → Agrees (first_fault callable past (part.asked a_scalar ∷ parts) ws) (λ x. past) (λ x. parts) (scalar s ws)
+    pub scalar_agrees : (ws : List Word) → Agrees (checked callable past (part.asked a_scalar ∷ parts) ws) (λ x. past) (λ x. parts) (scalar s ws)
     unfolding scalar
     scalar_agrees ws = asked_agrees scalar_by a_scalar looks_scalar ws

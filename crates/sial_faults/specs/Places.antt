@@ -6,7 +6,7 @@ use Rattle.sial_parser.specs.Parsing.{is_end}
 use Rattle.sial_parser.specs.declared.fault.ParseFault.{ParseFault}
 use Rattle.sial_parser.specs.declared.fault.ParseFault.TheVariants.{Lex, Expected, Undeclared, Twice, EndName, TooMany, TooDeep, OutOfMemory}
 use Rattle.sial_parser.specs.declared.word.Word.{Word}
-use Rattle.sial_faults.specs.Parts.{BeginForm}
+use Rattle.sial_faults.specs.Forms.{BeginForm}
 
 -- the end of the text stands last, and nowhere else
 abbrev pub EndsWell : List Word → Type 0
