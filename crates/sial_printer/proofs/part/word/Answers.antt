@@ -1,0 +1,9 @@
+use Rattle.std.proofs.Common.{refl}
+use Rattle.sial_printer.proofs.Writes.{first_failed, both_wrote}
+use Rattle.sial_printer.proofs.part.word.Goals as goal
+
+pub returns-in_err-write : goal.returns-in_err-write
+returns-in_err-write g c = first_failed _ c.args.bytes.now c.from_residual.result c.in_err-write.ensures c.from_residual.ensures.0 refl
+
+pub returns : goal.returns
+returns g c = both_wrote _ c.write-2.result c.in_ok-write.ensures c.write-2.ensures refl
