@@ -8,15 +8,10 @@ use Rattle.sial_parser.specs.declared.word.Symbol.{Symbol}
 use Rattle.sial_parser.specs.declared.word.Symbol.TheVariants.{Key, Name, Number, Quoted, LineEnd, End}
 use Rattle.sial_parser.specs.declared.word.Symbol.TheVariants as symbol
 use Rattle.sial_parser.specs.declared.word.Word.{Word}
-use Rattle.sial_faults.specs.Forms.{says, where_so, less, statement, ended, stays, after_body, after_procedures, declaration, after_new, after_assign, after_bin_or_end, after, AreParts}
+use Rattle.sial_faults.specs.Forms.{says, where_so, less, statement, ended, stays, after_body, after_procedures, declaration, after_new, after_assign, after_bin_or_end, after, AreParts, Leads}
 use Rattle.sial_faults.specs.Parts.{Part, Fixed, sial, of, line_end, opening, equals, plus_equals, comma, Named, a_range, a_subindex, a_new_scalar, a_new_array, a_procedure, Ending, of_program, of_procedure, of_do, of_pardo, of_if, of_else}
 use Rattle.sial_faults.specs.Forms as form
 use Rattle.sial_faults.specs.Parts as part
-
--- words that stand for parts, and the parts that are left behind them
-pub data Leads : List Part → List Word → List Part → Type 0 where
-  here : {parts : List Part} → Leads parts [] parts
-  next : {p : Part} {more parts left : List Part} {w : Word} {ws : List Word} → after p w.symbol ≡ Some more → Leads (more ++ parts) ws left → Leads (p ∷ parts) (w ∷ ws) left
 
 -- what stands for the parts that are left completes the words
 pub leads_then : (parts left : List Part) (ws behind : List Word) → Leads parts ws left → AreParts left behind → AreParts parts (ws ++ behind)
@@ -26,7 +21,7 @@ leads_then _ left _ behind (Leads.next {p = p} {more = more} {parts = parts} {w 
 pub same_parts : (a b : List Part) → ◌≡◌ {A = Option (List Part)} (Some a) (Some b) → a ≡ b
 same_parts a b e = let h : a ≡ b = cc in h
 
-parts_back : (p : Part) (parts : List Part) (w : Word) (ws : List Word) (more : List Part) → AreParts (p ∷ parts) (w ∷ ws) → after p w.symbol ≡ Some more → AreParts (more ++ parts) ws
+pub parts_back : (p : Part) (parts : List Part) (w : Word) (ws : List Word) (more : List Part) → AreParts (p ∷ parts) (w ∷ ws) → after p w.symbol ≡ Some more → AreParts (more ++ parts) ws
 parts_back _ _ _ _ more (AreParts.next {part = p} {more = other} {parts = parts} {w = w} {ws = ws} e h) f = subst (λ m. AreParts (m ++ parts) ws) (same_parts other more (sym e ∙ f)) h
 
 -- what completes words stands for the parts that are left

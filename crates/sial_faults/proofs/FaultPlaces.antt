@@ -38,15 +38,17 @@ really_none part.text_end w [] ends e = e
 really_none part.text_end w (v ∷ ws) ends e = not_end (is_end w.symbol) ends.0
 really_none _ w ws ends e = e
 
--- whether a fault is Expected
-abbrev pub is_expected : ParseFault → Bool
-is_expected (Expected line) = true
-is_expected _ = false
+-- the faults of a word that may stand at its part
+abbrev pub of_word : ParseFault → Bool
+of_word (Lex fault) = false
+of_word (Expected line) = false
+of_word OutOfMemory = false
+of_word _ = true
 
--- a fault of a line that isn't Expected
+-- such a fault of a line
 abbrev pub HasLine : (line : ℕ) → Option ParseFault → Type 0
 HasLine line None = Unit {0}
-HasLine line (Some g) = (line_in g ≡ line) × (is_expected g ≡ false)
+HasLine line (Some g) = (line_in g ≡ line) × (of_word g ≡ true)
 
 unless_line : (line : ℕ) (b : Bool) (g : ParseFault) (next : Option ParseFault) → HasLine line (Some g) → HasLine line next → HasLine line (unless b g next)
 unless_line line true g next h k = k

@@ -15,6 +15,7 @@ pub mod Completing
 pub mod TextEnd
 pub mod FaultPlaces
 pub mod Standing
+pub mod First
 pub mod TextFaults
 pub mod PlainParts
 pub mod Uncalled

@@ -15,14 +15,15 @@ use Rattle.sial_parser.specs.declared.word.Symbol.TheVariants.{End}
 use Rattle.sial_parser.specs.declared.word.Word.{Word}
 use Rattle.sial_parser.proofs.ProgramAgain.{program_again}
 use Rattle.sial_faults.specs.Faults.{Past, at_start, at_text_end, checked, fault_at, past_after, first_fault, fault_in, any_name}
-use Rattle.sial_faults.specs.Laws.{FirstStands, ProgramsHaveForm}
+use Rattle.sial_faults.specs.Laws.{FirstStands, NoneStands, ProgramsHaveForm}
 use Rattle.sial_faults.specs.Forms.{after, AreParts, program}
 use Rattle.sial_faults.specs.Parts.{Part}
 use Rattle.sial_faults.specs.Places.{EndsWell}
 use Rattle.sial_faults.proofs.AgreeProcedures.{meets_first}
 use Rattle.sial_faults.proofs.FaultPlaces.{end_some}
-use Rattle.sial_faults.proofs.Standing.{going, stands_at}
-use Rattle.sial_faults.proofs.Strict.{read_none}
+use Rattle.sial_faults.proofs.Standing.{going}
+use Rattle.sial_faults.proofs.First.{none_stands, stands_at}
+use Rattle.sial_faults.proofs.Strict.{Faultless, read_none}
 
 -- no token is the end of the text
 key_no_end : (name : List ℕ) (k : Option Keyword) → is_end (name_or_key name k) ≡ false
@@ -71,6 +72,14 @@ words_told ws g e = strict_told ws g (read_program true ws) e refl
 
 pub first_stands : FirstStands
 first_stands text tokens fault has e = stands_at (words_of text tokens) fault (words_end text tokens) (the_fault (checked any_name at_start program (words_of text tokens)) fault e)
+
+the_end : (r : Result Past ParseFault) → fault_in r ≡ None → Faultless r
+the_end (Ok end) e = record { end = end; is = refl }
+the_end (Err fault) e = absurd cc
+
+pub none_stand : NoneStands
+none_stand text tokens has e fault before w behind =
+    let n = the_end (checked any_name at_start program (words_of text tokens)) e in none_stands n.end (words_of text tokens) at_start program n.is fault before w behind
 
 -- words without a fault have the form of what is due
 pub have_form : (callable : (name : List ℕ) → Bool) (end : Past) (ws : List Word) (past : Past) (parts : List Part) → checked callable past parts ws ≡ Ok end → AreParts parts ws

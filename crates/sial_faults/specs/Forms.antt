@@ -218,10 +218,20 @@ pub data AreParts : List Part → List Word → Type 0 where
   none : AreParts [] []
   next : {part : Part} {more parts : List Part} {w : Word} {ws : List Word} → after part w.symbol ≡ Some more → AreParts (more ++ parts) ws → AreParts (part ∷ parts) (w ∷ ws)
 
+-- words that stand for the first parts, and the parts that are left behind them
+pub data Leads : List Part → List Word → List Part → Type 0 where
+  here : {parts : List Part} → Leads parts [] parts
+  next : {p : Part} {more parts left : List Part} {w : Word} {ws : List Word} →
+      after p w.symbol ≡ Some more → Leads (more ++ parts) ws left → Leads (p ∷ parts) (w ∷ ws) left
+
+-- words with which words begin that stand for parts
+abbrev pub BeginParts : List Part → List Word → Type 0
+BeginParts parts ws = (behind : List Word) × AreParts parts (ws ++ behind)
+
 -- words have the form of a program, whatever their names are declared as
 abbrev pub HaveForm : List Word → Type 0
 HaveForm ws = AreParts program ws
 
 -- words begin the form of a program
 abbrev pub BeginForm : List Word → Type 0
-BeginForm ws = (behind : List Word) × HaveForm (ws ++ behind)
+BeginForm ws = BeginParts program ws
