@@ -4,3 +4,8 @@ pub mod SeenLemmas
 pub mod Places
 pub mod Spelled
 pub mod LinesRead
+pub mod StatementsStand
+pub mod ScopeLemmas
+pub mod DeclarationsStand
+pub mod ProgramStands
+pub mod PrintedText

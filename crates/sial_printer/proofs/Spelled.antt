@@ -47,11 +47,11 @@ no_digit : (after : List ℕ) → IsGap after → begins is_digit_or_point after
 no_digit [] gap = refl
 no_digit (b ∷ bs) gap = gap.1
 
-front : (x y : Bool) → x && y ≡ true → x ≡ true
+pub front : (x y : Bool) → x && y ≡ true → x ≡ true
 front true y e = refl
 front false y e = absurd cc
 
-back : (x y : Bool) → x && y ≡ true → y ≡ true
+pub back : (x y : Bool) → x && y ≡ true → y ≡ true
 back true y e = e
 back false y e = absurd cc
 

@@ -3,3 +3,6 @@ pub mod Symbols
 pub mod Lines
 pub mod Parts
 pub mod Placed
+pub mod Relined
+pub mod Unlined
+pub mod Printed

@@ -10,7 +10,9 @@ use Rattle.sial_parser.specs.declared.word.Symbol.TheVariants.{Key, Name}
 use Rattle.sial_printer.proofs.Writes.{first_failed, both_wrote}
 use Rattle.sial_printer.proofs.SpacedLemmas.{text-append, headed, several_then}
 use Rattle.sial_printer.specs.Lines.{procedure_lines, statements, declarations, printed}
+use Rattle.sial_printer.specs.Relined.{relined_tree}
 use Rattle.sial_printer.specs.Spelling.{text_of}
+use Rattle.sial_printer.proofs.PrintedText.{printed_text, short_text, same_but_lines}
 use Rattle.sial_printer.proofs.printer.print_program.Goals as goal
 
 -- what stands behind a program's name, behind its declarations, and behind its procedures
@@ -42,13 +44,23 @@ four_parts p procs qs same are =
 pub returns-in_err-line : goal.returns-in_err-line
 returns-in_err-line g c =
     let p = tree c.args.program.now in
-    record { wrote = first_failed _ (text_of (behind_name p)) c.from_residual.result c.in_err-line.ensures c.from_residual.ensures.0 (two_parts p) }
+    record {
+      wrote = first_failed _ (text_of (behind_name p)) c.from_residual.result c.in_err-line.ensures c.from_residual.ensures.0 (two_parts p);
+      text = printed_text p c.requires.parsed;
+      short = short_text (printed p) (relined_tree p) (printed_text p c.requires.parsed);
+      same = same_but_lines p;
+    }
 
 pub returns-in_err-declarations : goal.returns-in_err-declarations
 returns-in_err-declarations g c =
     let p = tree c.args.program.now in
     let r = c.from_residual-in_err-declarations in
-    record { wrote = both_wrote _ r.result c.in_ok-line.ensures (stopped (text_of (behind_declarations p)) r.result c.in_err-declarations.ensures r.ensures.0) (three_parts p) }
+    record {
+      wrote = both_wrote _ r.result c.in_ok-line.ensures (stopped (text_of (behind_declarations p)) r.result c.in_err-declarations.ensures r.ensures.0) (three_parts p);
+      text = printed_text p c.requires.parsed;
+      short = short_text (printed p) (relined_tree p) (printed_text p c.requires.parsed);
+      same = same_but_lines p;
+    }
 
 pub returns-in_err-all : goal.returns-in_err-all
 returns-in_err-all g c =
@@ -57,6 +69,9 @@ returns-in_err-all g c =
     record {
       wrote = both_wrote _ r.result c.in_ok-line.ensures (then_wrote r.result c.in_ok-declarations.ensures (stopped (text_of (behind_procedures p)) r.result c.in_err-all.ensures r.ensures.0))
           (four_parts p c.deref.result.now c.args.program.now.procs.items c.deref.ensures.value refl);
+      text = printed_text p c.requires.parsed;
+      short = short_text (printed p) (relined_tree p) (printed_text p c.requires.parsed);
+      same = same_but_lines p;
     }
 
 pub returns : goal.returns
@@ -67,4 +82,7 @@ returns g c =
       wrote = both_wrote _ c.closed.result c.in_ok-line.ensures (then_wrote c.closed.result c.in_ok-declarations.ensures (then_wrote c.closed.result c.in_ok-all.ensures c.closed.ensures))
           (ap (λ b. text_of (head_line p ∷ []) ++ (text_of (declarations p) ++ (flat_map (λ (q : Proc). text_of (procedure_lines p (procedure q))) c.deref.result.now ++ text_of (statements p (syntax.block b) ++ last)))) c.deref-2.ensures.value
           ∙ four_parts p c.deref.result.now c.args.program.now.procs.items c.deref.ensures.value refl);
+      text = printed_text p c.requires.parsed;
+      short = short_text (printed p) (relined_tree p) (printed_text p c.requires.parsed);
+      same = same_but_lines p;
     }
