@@ -5,3 +5,4 @@ pub mod Code
 pub mod Flatten
 pub mod Places
 pub mod PlaceLaws
+pub mod UniqueLaws

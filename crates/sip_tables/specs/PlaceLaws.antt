@@ -29,7 +29,10 @@ StopStands = (p : Tree) → StandsAt (stop_at p) (instruction 0 op.Stop ∷ []) 
 
 -- a procedure's body stands at its number, with its return behind it
 abbrev pub ProcedureStands : Tree → ℕ → Procedure → Type 0
-ProcedureStands p number q = (text : ℕ) × StandsAt (entry_of p number) (body_code (entries_of p) (entry_of p number) text q.body ++ instruction 0 op.Return ∷ []) (flatten p).code
+ProcedureStands p number q =
+    (text : ℕ)
+    × StandsAt (entry_of p number) (body_code (entries_of p) (entry_of p number) text q.body ++ instruction 0 op.Return ∷ [])
+    (flatten p).code
 
 abbrev pub ProceduresStand : Type 0
 ProceduresStand = (p : Tree) (number : ℕ) (q : Procedure) → slice_get p.procedures number ≡ Some q → ProcedureStands p number q

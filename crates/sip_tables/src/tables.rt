@@ -26,7 +26,14 @@ impl Model for Tables {
 
     ghost Value = { Lists };
 
-    ghost view = { λ t. record { texts = t.texts.items; indices = t.indices.items; arrays = t.arrays.items; scalars = t.scalars.items; procedures = t.procedures.items; code = t.code.items } };
+    ghost view = { λ t. record {
+      texts = t.texts.items;
+      indices = t.indices.items;
+      arrays = t.arrays.items;
+      scalars = t.scalars.items;
+      procedures = t.procedures.items;
+      code = t.code.items;
+    } };
 }
 
 impl Tables {
@@ -39,7 +46,14 @@ impl Tables {
         procedures: Vec<ProcedureEntry>,
         code: Vec<Instruction>,
     ) -> Tables
-        ensures { result ≡ record { texts = texts.items; indices = indices.items; arrays = arrays.items; scalars = scalars.items; procedures = procedures.items; code = code.items } }
+        ensures { result ≡ record {
+          texts = texts.items;
+          indices = indices.items;
+          arrays = arrays.items;
+          scalars = scalars.items;
+          procedures = procedures.items;
+          code = code.items;
+        } }
     {
         Tables {
             texts,

@@ -1,2 +1,16 @@
 pub mod Loops
 pub mod Writes
+pub mod NumberLemmas
+pub mod ReadsLemmas
+pub mod FieldLaws
+pub mod TextLaws
+pub mod EntryLaws
+pub mod OperandLaws
+pub mod ModeLaws
+pub mod TaggedLaws
+pub mod InstructionParts
+pub mod InstructionReaders
+pub mod InstructionLaws
+pub mod OpcodeLaws
+pub mod CodeLaws
+pub mod FileLaws

@@ -1,10 +1,15 @@
 pub mod Numbers
+pub mod Parts
 pub mod Bytes
 pub mod Rows
 pub mod Fields
 pub mod Entries
 pub mod Operands
 pub mod Heads
+pub mod Combined
+pub mod Control
+pub mod Simple
 pub mod Instructions
 pub mod Opcodes
 pub mod Reading
+pub mod Fits

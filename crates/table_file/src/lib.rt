@@ -2,6 +2,7 @@
 #![tactic(auto)]
 
 mod combined;
+mod control;
 mod declared;
 mod entries;
 mod entry;
@@ -17,6 +18,7 @@ mod operands;
 mod parts;
 mod reading;
 mod rows;
+mod simple;
 mod version;
 mod writing;
 

@@ -1,7 +1,9 @@
 //! Reading a file.
 
-ghost use Rattle.std.specs.Prelude.{◌≡◌};
+ghost use Rattle.std.specs.Prelude.{◌≡◌, IfOk, Ok};
+ghost use Rattle.sip_tables.specs.Lists.{Lists};
 ghost use Rattle.table_file.specs.Fields.{Gives, behind, entries as spec_entries};
+ghost use Rattle.table_file.specs.Fits.{IsFileOf};
 ghost use Rattle.table_file.specs.Reading as spec;
 
 use crate::entries::program_name;
@@ -20,7 +22,13 @@ const MOST_NAMES: u32 = 256;
 const MOST_STATEMENTS: u32 = 65535;
 
 /// The tables whose file these bytes are, or the first fault in reading order, in time and memory linear in their length.
+#[tactic(auto, using(crate::proofs::FileLaws::found_from, crate::proofs::FileLaws::only_from))]
 pub fn decode(alloc: Global, bytes: &[u8]) -> Result<Tables, TableFault>
+    // What is given are tables whose file the bytes are, and they are given wherever the bytes are a file and memory is found.
+    ensures found { IfOk result (λ t. IsFileOf bytes.now t) }
+    ensures only { (t : Lists) → IsFileOf bytes.now t → Gives (λ t. t) result (Ok t) }
+
+    // Else the answer is the first fault of a reading field by field, from the front.
     ensures exact { Gives (λ t. t) result (spec.decode_of bytes.now) }
 {
     read(alloc, bytes)
