@@ -6,6 +6,8 @@ mod building;
 #[cfg(test)]
 mod calls;
 #[cfg(test)]
+mod classes;
+#[cfg(test)]
 mod inputs;
 #[cfg(test)]
 mod resolved;

@@ -87,13 +87,12 @@ fn start_values_stand_at_their_places(rt: HostRuntime) -> Result<(), Fail> {
         .push(block_line(alloc, 6, b"a", &[3, 3], &[8])?)?;
     let found = resolved(alloc, &program, &given)?;
     assert_eq!(rt; found.is_some(), true);
-    if let Some((_, start)) = found {
+    if let Some((_spaces, start)) = found {
         // Of the two scalars `x` the first is meant.
         assert_eq!(rt; start.scalars.as_slice(), [u64::MAX, 0, 0, 0].as_slice());
-        let blocks = start.blocks.as_slice();
-        assert_eq!(rt; blocks.len(), 2);
-        assert_eq!(rt; shown(blocks, 0), (1, 2, 7));
-        assert_eq!(rt; shown(blocks, 1), (0, 4, 8));
+        assert_eq!(rt; start.blocks.len(), 2);
+        assert_eq!(rt; shown(start.blocks.as_slice(), 0), (1, 2, 7));
+        assert_eq!(rt; shown(start.blocks.as_slice(), 1), (0, 4, 8));
     }
     Ok(())
 }

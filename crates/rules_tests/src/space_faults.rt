@@ -165,14 +165,22 @@ fn the_box_of_a_pardo_is_not_too_large(rt: HostRuntime) -> Result<(), Fail> {
     let input = input(alloc, 3, &[2, 3, 1])?;
     // `k` has 4,096 segments, `h` one less, `j` is not within the `i` of `d(i)`.
     for (pardo, line, want) in [
-        ([1, 0, 2], 20, None),
+        ([1, 0, 2].as_slice(), 20, None),
         (
-            [0, 0, 2],
+            [0, 0, 2].as_slice(),
             20,
             Some((SpaceKind::TooManyBlocks, b'k', 4096 * 4096 * 257)),
         ),
-        ([0, 0, 2], 30, Some((SpaceKind::NotWithin, b'j', 30))),
-        ([0, 0, 2], 31, Some((SpaceKind::NotWithin, b'j', 30))),
+        (
+            [0, 0, 2].as_slice(),
+            30,
+            Some((SpaceKind::NotWithin, b'j', 30)),
+        ),
+        (
+            [0, 0, 2].as_slice(),
+            31,
+            Some((SpaceKind::NotWithin, b'j', 30)),
+        ),
     ] {
         let indices = vec![in alloc;
             index(alloc, b"k", Kind::Index, 1, 4096)?,
@@ -183,7 +191,7 @@ fn the_box_of_a_pardo_is_not_too_large(rt: HostRuntime) -> Result<(), Fail> {
         ]?;
         let arrays = vec![in alloc; array(alloc, b"d", ArrayKind::Distributed, &[3])?]?;
         let form = Form::Pardo {
-            indices: Vec::from_slice(alloc, &pardo)?,
+            indices: Vec::from_slice(alloc, pardo)?,
             wheres: Vec::new(alloc),
             body: Vec::new(alloc),
         };
@@ -215,16 +223,46 @@ fn start_values_have_places(rt: HostRuntime) -> Result<(), Fail> {
 #[test]
 fn blocks_of_start_values_are_whole(rt: HostRuntime) -> Result<(), Fail> {
     let alloc = rt.alloc();
-    for (name, segment, count, want) in [
-        (b"a", 3, 1, None),
-        (b"a", 2, 3, None),
-        (b"v", 2, 3, None),
-        (b"a", 2, 2, Some((SpaceKind::BadStart, b'a', 6))),
-        (b"a", 1, 2, Some((SpaceKind::BadStart, b'a', 6))),
-        (b"a", 4, 1, Some((SpaceKind::BadStart, b'a', 6))),
-        (b"t", 2, 3, Some((SpaceKind::BadStart, b't', 6))),
-        (b"d", 2, 3, Some((SpaceKind::BadStart, b'd', 6))),
-        (b"x", 2, 3, Some((SpaceKind::BadStart, b'x', 6))),
+    for (name, segment, elements, want) in [
+        (b"a", 3, [1].as_slice(), None),
+        (b"a", 2, [1, 2, 3].as_slice(), None),
+        (b"v", 2, [1, 2, 3].as_slice(), None),
+        (
+            b"a",
+            2,
+            [1, 2].as_slice(),
+            Some((SpaceKind::BadStart, b'a', 6)),
+        ),
+        (
+            b"a",
+            1,
+            [1, 2].as_slice(),
+            Some((SpaceKind::BadStart, b'a', 6)),
+        ),
+        (
+            b"a",
+            4,
+            [1].as_slice(),
+            Some((SpaceKind::BadStart, b'a', 6)),
+        ),
+        (
+            b"t",
+            2,
+            [1, 2, 3].as_slice(),
+            Some((SpaceKind::BadStart, b't', 6)),
+        ),
+        (
+            b"d",
+            2,
+            [1, 2, 3].as_slice(),
+            Some((SpaceKind::BadStart, b'd', 6)),
+        ),
+        (
+            b"x",
+            2,
+            [1, 2, 3].as_slice(),
+            Some((SpaceKind::BadStart, b'x', 6)),
+        ),
     ] {
         let indices = vec![in alloc; index(alloc, b"i", Kind::Ao, 2, 3)?]?;
         let arrays = vec![in alloc;
@@ -233,9 +271,8 @@ fn blocks_of_start_values_are_whole(rt: HostRuntime) -> Result<(), Fail> {
             array(alloc, b"t", ArrayKind::Temp, &[0])?,
             array(alloc, b"d", ArrayKind::Distributed, &[0])?,
         ]?;
-        let elements: &[u64] = &[1, 2, 3];
         let mut input = input(alloc, 3, &[2, 3, 1])?;
-        let line = block_line(alloc, 6, name, &[segment], &elements[..count])?;
+        let line = block_line(alloc, 6, name, &[segment], elements)?;
         input.blocks.push(line)?;
         let program = program(alloc, indices, arrays, Vec::new(alloc))?;
         assert_eq!(rt; refused(alloc, &program, &input)?, want);
@@ -266,10 +303,30 @@ fn of_two_bad_lines_the_first_is_told(rt: HostRuntime) -> Result<(), Fail> {
 fn the_rounds_follow_one_another(rt: HostRuntime) -> Result<(), Fail> {
     let alloc = rt.alloc();
     for (hi, dims, at, want) in [
-        (4, [1, 1], 1, Some((SpaceKind::NoSegment, b'j', 4))),
-        (3, [1, 1], 1, Some((SpaceKind::BlockTooWide, b'a', 66049))),
-        (3, [0, 0], 1, Some((SpaceKind::NotWithin, b'j', 20))),
-        (3, [0, 0], 0, Some((SpaceKind::BadStart, b'u', 5))),
+        (
+            4,
+            [1, 1].as_slice(),
+            1,
+            Some((SpaceKind::NoSegment, b'j', 4)),
+        ),
+        (
+            3,
+            [1, 1].as_slice(),
+            1,
+            Some((SpaceKind::BlockTooWide, b'a', 66049)),
+        ),
+        (
+            3,
+            [0, 0].as_slice(),
+            1,
+            Some((SpaceKind::NotWithin, b'j', 20)),
+        ),
+        (
+            3,
+            [0, 0].as_slice(),
+            0,
+            Some((SpaceKind::BadStart, b'u', 5)),
+        ),
     ] {
         let mut input = input(alloc, 3, &[2, 3, 257])?;
         input.scalars.push(scalar_line(alloc, 5, b"u", 5)?)?;
@@ -277,7 +334,7 @@ fn the_rounds_follow_one_another(rt: HostRuntime) -> Result<(), Fail> {
             index(alloc, b"i", Kind::Ao, 1, 2)?,
             index(alloc, b"j", Kind::Ao, 1, hi)?,
         ]?;
-        let arrays = vec![in alloc; array(alloc, b"a", ArrayKind::Static, &dims)?]?;
+        let arrays = vec![in alloc; array(alloc, b"a", ArrayKind::Static, dims)?]?;
         let body = one(alloc, get(alloc, 20, 0, &[at, 0])?)?;
         let program = program(alloc, indices, arrays, body)?;
         assert_eq!(rt; refused(alloc, &program, &input)?, want);

@@ -4,3 +4,7 @@ pub mod CallListLemmas
 pub mod DepthRoundLemmas
 pub mod ReachRoundLemmas
 pub mod CallDepthLemmas
+pub mod HandLemmas
+pub mod SideRoundLemmas
+pub mod DeedLemmas
+pub mod AllLemmas

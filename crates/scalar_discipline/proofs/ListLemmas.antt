@@ -1,7 +1,10 @@
 -- Lists by the numbers of their places.
-use Rattle.std.proofs.Common.{◌≡◌, ℕ, zero, suc, ◌+◌, ◌<◌, List, [], ◌∷◌, map, filter, length, slice_index_or, Bool, cond, ◌||◌, inl, inr, refl, ap, ◌∙◌, subst, arith}
+use Rattle.std.proofs.Common.{◌≡◌, ℕ, zero, suc, ◌+◌, ◌<◌, List, [], ◌∷◌, ◌++◌, map, filter, length, slice_index_or, Bool, cond, ◌||◌, inl, inr, refl, sym, ap, ◌∙◌, subst, append_assoc, append-nil, Option, Some, None, ◌-◌, arith}
 use Rattle.std.specs.List.{list_any, enumerate_from}
+use Rattle.sial_syntax.specs.declared.condition.Cond.{Cond}
 use Rattle.sial_syntax.specs.Boxes.{numbers_from}
+use Rattle.sial_syntax.specs.Parts.{arrays_named}
+use Rattle.sial_syntax.specs.Tree.{Block, branches}
 use Rattle.sial_syntax.proofs.AmongLemmas.{Among}
 
 -- what is the same for each member is the same for all
@@ -64,3 +67,20 @@ pub at_map : {X Y : Type 0} (f : X → Y) (xs : List X) (i : ℕ) (d : X) → sl
 at_map f [] i d = refl
 at_map f (x ∷ xs) zero d = refl
 at_map f (x ∷ xs) (suc i) d = at_map f xs i d
+
+-- nothing behind a list
+pub nothing_more : (xs ys : List ℕ) → ys ≡ [] → xs ≡ xs ++ ys
+nothing_more xs ys none = sym (append-nil xs) ∙ ap (λ zs. xs ++ zs) (sym none)
+
+-- an `if` names no array itself
+pub branches_none : (test : Cond) (body : Block) (other : Option Block) → arrays_named (branches test body other) ≡ []
+branches_none test body None = refl
+branches_none test body (Some other) = refl
+
+-- one more number
+pub numbers_turn : {X : Type 0} (f : ℕ → X) (done new all : List X) (x : X) (k n : ℕ) → k < n → x ≡ f k → new ≡ done ++ x ∷ [] → done ++ map f (numbers_from k (n - k)) ≡ all → new ++ map f (numbers_from (k + 1) (n - (k + 1))) ≡ all
+numbers_turn f done new all x k n within is pushed so =
+    let rest = map f (numbers_from (k + 1) (n - (k + 1))) in
+    let more : n - k ≡ suc (n - (k + 1)) = omega (arith, within) in
+    ap (λ xs. xs ++ rest) (pushed ∙ ap (λ y. done ++ y ∷ []) is)
+    ∙ (append_assoc done (f k ∷ []) rest ∙ (ap (λ m. done ++ map f (numbers_from k m)) (sym more) ∙ so))

@@ -67,7 +67,7 @@ reach-are p to (suc m) there =
         ∙ same_any (λ r. slice_index_or reach r false) (λ r. reaches p m r to) (calls_of p (0 + q)) (λ r among. reach-at p to m r reach there is)))
 
 -- a statement calls one procedure, or none
-one-called : (form : Plain) → (called_by form ≡ []) ⊎ ((q : ℕ) × (called_by form ≡ q ∷ []))
+pub one-called : (form : Plain) → (called_by form ≡ []) ⊎ ((q : ℕ) × (called_by form ≡ q ∷ []))
 one-called (tree.Call q) = inr (q, refl)
 one-called _ = inl refl
 
@@ -79,22 +79,22 @@ passing-lines test [] = refl
 passing-lines test (v ∷ vs) = by (called_by v.form) (one-called v.form) (passing-lines test vs)
   where
     passed : (b : Bool) (cs : List Call) (ws : List Visit) (line q : ℕ) → map (λ (c : Call). c.line) cs ≡ map (λ (w : Visit). w.line) ws
-        → map (λ (c : Call). c.line) (cond b (record { line = v.line; procedure = q } ∷ cs) cs) ≡ map (λ (w : Visit). w.line) (cond (b || false) (v ∷ ws) ws)
+        → map (λ (c : Call). c.line) (cond b (record { line = v.line; procedure = q; within = v.within } ∷ cs) cs) ≡ map (λ (w : Visit). w.line) (cond (b || false) (v ∷ ws) ws)
     passed true cs ws line q e = ap (λ ls. v.line ∷ ls) e
     passed false cs ws line q e = e
 
     by : (qs : List ℕ) → (qs ≡ []) ⊎ ((q : ℕ) × (qs ≡ q ∷ []))
         → map (λ (c : Call). c.line) (filter (λ (c : Call). test c.procedure) (flat_map calls_at vs)) ≡ map (λ (w : Visit). w.line) (filter (λ (w : Visit). list_any test (called_by w.form)) vs)
-        → map (λ (c : Call). c.line) (filter (λ (c : Call). test c.procedure) (map (λ q. record { line = v.line; procedure = q }) qs ++ flat_map calls_at vs))
+        → map (λ (c : Call). c.line) (filter (λ (c : Call). test c.procedure) (map (λ q. record { line = v.line; procedure = q; within = v.within }) qs ++ flat_map calls_at vs))
         ≡ map (λ (w : Visit). w.line) (cond (list_any test qs) (v ∷ filter (λ (w : Visit). list_any test (called_by w.form)) vs) (filter (λ (w : Visit). list_any test (called_by w.form)) vs))
     by qs (inl none) e =
         subst
-        (λ (rs : List ℕ). map (λ (c : Call). c.line) (filter (λ (c : Call). test c.procedure) (map (λ q. record { line = v.line; procedure = q }) rs ++ flat_map calls_at vs))
+        (λ (rs : List ℕ). map (λ (c : Call). c.line) (filter (λ (c : Call). test c.procedure) (map (λ q. record { line = v.line; procedure = q; within = v.within }) rs ++ flat_map calls_at vs))
         ≡ map (λ (w : Visit). w.line) (cond (list_any test rs) (v ∷ filter (λ (w : Visit). list_any test (called_by w.form)) vs) (filter (λ (w : Visit). list_any test (called_by w.form)) vs)))
         (sym none) e
     by qs (inr one) e =
         subst
-        (λ (rs : List ℕ). map (λ (c : Call). c.line) (filter (λ (c : Call). test c.procedure) (map (λ q. record { line = v.line; procedure = q }) rs ++ flat_map calls_at vs))
+        (λ (rs : List ℕ). map (λ (c : Call). c.line) (filter (λ (c : Call). test c.procedure) (map (λ q. record { line = v.line; procedure = q; within = v.within }) rs ++ flat_map calls_at vs))
         ≡ map (λ (w : Visit). w.line) (cond (list_any test rs) (v ∷ filter (λ (w : Visit). list_any test (called_by w.form)) vs) (filter (λ (w : Visit). list_any test (called_by w.form)) vs)))
         (sym one.1)
         (passed (test one.0) (filter (λ (c : Call). test c.procedure) (flat_map calls_at vs)) (filter (λ (w : Visit). list_any test (called_by w.form)) vs) v.line one.0 e)

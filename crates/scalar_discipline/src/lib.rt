@@ -2,10 +2,17 @@
 #![tactic(auto)]
 
 mod call;
+mod classing;
+mod deeds;
 mod depths;
 mod fault;
+mod handing;
+mod parts;
+mod placed;
 mod reaching;
 mod rounds;
+mod standing;
 
+pub use classing::classes;
 pub use depths::call_depths;
 pub use fault::RuleFault;
