@@ -22,6 +22,10 @@ abbrev pub hand_on : List (ℕ × Sides) → List Sides → List Sides
 hand_on [] given = given
 hand_on (h ∷ hs) given = hand_on hs (given_more h.0 h.1 given)
 
+-- the same, once all procedures with these sides hand on theirs
+abbrev pub handed_on : List Sides → List (List Call) → List Sides → List Sides
+handed_on sides calls given = hand_on (handed_by sides 0 calls) given
+
 -- no sides for any procedure
 abbrev pub nowhere : List (List Call) → List Sides
 nowhere calls = map (λ (own : List Call). no_side) calls

@@ -63,7 +63,7 @@ fn next_sides(
 
 // Hands on the sides of all procedures.
 fn hand_all(sides: &[Standing], calls: &[Vec<Call>], given: &mut Vec<Standing>)
-    ensures { map sides_of given.new.items ≡ spec.hand_on (spec.handed_by (map sides_of sides.now) 0 (lists calls.now)) (map sides_of given.old.items) }
+    ensures { map sides_of given.new.items ≡ spec.handed_on (map sides_of sides.now) (lists calls.now) (map sides_of given.old.items) }
 {
     for (place, own) in calls.iter().enumerate() {
         hand_on(sides_among(sides, place), own.as_slice(), given);

@@ -2,7 +2,7 @@
 
 ghost use Rattle.std.specs.Prelude.{◌≡◌, map, IfOk, OnOk};
 ghost use Rattle.sial_syntax.specs.Tree.{block, plain_form, procedure, tree};
-ghost use Rattle.scalar_discipline.specs.Flat as spec;
+ghost use Rattle.scalar_discipline.specs.Flat.{all_placed, seen, sides_of, with_body, with_all, with_inner};
 
 use crate::standing::{Standing, sides_among};
 use sial_syntax::{Form, Proc, Program, Stmt};
@@ -24,7 +24,7 @@ fn flatten<'a>(
     stmts: &'a [Stmt],
     all: &mut Vec<Placed<'a>>,
 ) -> Result<(), AllocError>
-    ensures { OnOk result (map spec.sided_of all.new.items ≡ spec.with_body (spec.sides_of own) within (block stmts.now) (map spec.sided_of all.old.items)) }
+    ensures { OnOk result (seen all.new.items ≡ with_body (sides_of own) within (block stmts.now) (seen all.old.items)) }
 {
     for stmt in stmts {
         all.push(Placed {
@@ -45,7 +45,7 @@ fn flatten_inside<'a>(
     form: &'a Form,
     all: &mut Vec<Placed<'a>>,
 ) -> Result<(), AllocError>
-    ensures { OnOk result (map spec.sided_of all.new.items ≡ spec.with_inner (spec.sides_of own) within (plain_form form.now) (map spec.sided_of all.old.items)) }
+    ensures { OnOk result (seen all.new.items ≡ with_inner (sides_of own) within (plain_form form.now) (seen all.old.items)) }
 {
     match form {
         Form::Do { body, .. } | Form::DoIn { body, .. } => {
@@ -73,7 +73,7 @@ pub fn all_placed<'a>(
     program: &'a Program,
     sides: &[Standing],
 ) -> Result<Vec<Placed<'a>>, AllocError>
-    ensures { IfOk result (λ all. map spec.sided_of all.items ≡ spec.all_placed (tree program.now) (map spec.sides_of sides.now)) }
+    ensures { IfOk result (λ all. seen all.items ≡ all_placed (tree program.now) (map sides_of sides.now)) }
 {
     let mut all = Vec::new(alloc);
     let outside = Standing {
@@ -91,7 +91,7 @@ fn flatten_procedures<'a>(
     procs: &'a [Proc],
     all: &mut Vec<Placed<'a>>,
 ) -> Result<(), AllocError>
-    ensures { OnOk result (map spec.sided_of all.new.items ≡ spec.with_procedures (map spec.sides_of sides.now) 0 (map procedure procs.now) (map spec.sided_of all.old.items)) }
+    ensures { OnOk result (seen all.new.items ≡ with_all (map sides_of sides.now) (map procedure procs.now) (seen all.old.items)) }
 {
     for (place, procedure) in procs.iter().enumerate() {
         let own = sides_among(sides, place);
