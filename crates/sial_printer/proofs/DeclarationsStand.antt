@@ -31,8 +31,8 @@ use Rattle.sial_printer.specs.Lines.{index_line, ranged, array_line, scalar_line
 use Rattle.sial_printer.specs.Placed.{placed_line, placed, IsSaid}
 use Rattle.sial_printer.specs.Relined.{relined_form, relined, relined_indices, relined_arrays}
 use Rattle.sial_printer.specs.Symbols.{index_name, name_of_index, bound_symbol, kind_key, array_key, names}
-use Rattle.sial_printer.proofs.Spelled.{front, back}
-use Rattle.sial_printer.proofs.StatementsStand.{every_appended}
+use Rattle.sial_printer.proofs.NamesSpelled.{front, back}
+use Rattle.sial_printer.proofs.OperandsStand.{every_appended}
 use Rattle.sial_printer.proofs.ScopeLemmas.{front_found, last_found, entries, index_named, array_named, itself, AreFound, free_here, get_at}
 
 -- words of declarations are those of the grammar

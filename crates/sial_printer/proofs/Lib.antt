@@ -2,8 +2,10 @@ pub mod Writes
 pub mod SpacedLemmas
 pub mod SeenLemmas
 pub mod Places
+pub mod NamesSpelled
 pub mod Spelled
 pub mod LinesRead
+pub mod OperandsStand
 pub mod StatementsStand
 pub mod ScopeLemmas
 pub mod DeclarationsStand

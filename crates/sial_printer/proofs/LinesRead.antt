@@ -14,7 +14,8 @@ use Rattle.sial_parser.specs.declared.word.Word.{Word}
 use Rattle.sial_printer.specs.Placed.{placed_line, placed, IsSaid, AreSaid, IsLine, AreLines}
 use Rattle.sial_printer.specs.Spelling.{spelling, blank_before, spaced, line_text, text_of}
 use Rattle.sial_printer.proofs.Places.{Reads, reads_end, reads_break, reads_blank}
-use Rattle.sial_printer.proofs.Spelled.{IsGap, reads_symbol}
+use Rattle.sial_printer.proofs.NamesSpelled.{IsGap}
+use Rattle.sial_printer.proofs.Spelled.{reads_symbol}
 
 -- what stands behind a symbol in a line ends it
 sign_gap : (s : Sign) (ss : List Symbol) (after : List ℕ) → IsGap (spaced false (symbol.Sign s ∷ ss) ++ after)

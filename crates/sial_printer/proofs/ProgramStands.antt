@@ -30,8 +30,9 @@ use Rattle.sial_printer.specs.Lines.{index_line, ranged, array_line, scalar_line
 use Rattle.sial_printer.specs.Placed.{placed, AreSaid, IsLine, AreLines}
 use Rattle.sial_printer.specs.Relined.{relined, relined_indices, relined_arrays, relined_procedures, arrays_from, scalars_from, procedures_from, body_from, relined_tree}
 use Rattle.sial_printer.specs.Symbols.{index_name, names, other_names, name_of_index, name_of_array, name_of_scalar, name_of_procedure}
-use Rattle.sial_printer.proofs.Spelled.{front, back}
-use Rattle.sial_printer.proofs.StatementsStand.{name_of, placed_append, every_appended, body_stands}
+use Rattle.sial_printer.proofs.NamesSpelled.{front, back}
+use Rattle.sial_printer.proofs.OperandsStand.{name_of, placed_append, every_appended}
+use Rattle.sial_printer.proofs.StatementsStand.{body_stands}
 use Rattle.sial_printer.proofs.ScopeLemmas.{Same, same_append, front_found, back_found, entries, index_named, array_named, itself, ordered, all_moved, AreFound, found_same, nothing_found, all_found, looked, entries_named}
 use Rattle.sial_printer.proofs.DeclarationsStand.{bound_said, list_at, index_at, same_body_nesting, same_body_count, BeforeArray, BeforeScalar, indices_after, arrays_after, scalars_after, after_scalars, indices_declared, arrays_declared, scalars_declared}
 
