@@ -79,7 +79,7 @@ told-any told test q (s ∷ ss) each =
     ∙ (ap (λ b. b || contains (flat_map told ss) q) (each s) ∙ ap (λ b. test s || b) (told-any told test q ss each))
 
 -- numbers that are there only where a test says so
-only-contains : (b : Bool) (xs : List ℕ) (q : ℕ) → contains (only_if b xs) q ≡ (b && contains xs q)
+pub only-contains : (b : Bool) (xs : List ℕ) (q : ℕ) → contains (only_if b xs) q ≡ (b && contains xs q)
 only-contains true xs q = refl
 only-contains false xs q = refl
 

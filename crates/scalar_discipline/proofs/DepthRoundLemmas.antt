@@ -99,7 +99,7 @@ calls-there p q r m = by (nat_lt q (length p.procedures)) refl
         absurd (subst (λ (rs : List ℕ). Among r rs) (calls-none p q (omega (arith, past))) m)
 
 -- a depth found in the list of all; a procedure that isn't there is 1 deep
-depth-at : (p : Tree) (m r : ℕ) (depths : List ℕ) → depths ≡ map (depth_of p (suc m)) (numbers_from 0 (length p.procedures)) → slice_index_or depths r 1 ≡ depth_of p (suc m) r
+pub depth-at : (p : Tree) (m r : ℕ) (depths : List ℕ) → depths ≡ map (depth_of p (suc m)) (numbers_from 0 (length p.procedures)) → slice_index_or depths r 1 ≡ depth_of p (suc m) r
 depth-at p m r depths is = by (nat_lt r (length p.procedures)) refl
   where
     by : (b : Bool) → nat_lt r (length p.procedures) ≡ b → slice_index_or depths r 1 ≡ depth_of p (suc m) r

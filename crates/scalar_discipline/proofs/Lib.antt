@@ -8,3 +8,8 @@ pub mod HandLemmas
 pub mod SideRoundLemmas
 pub mod DeedLemmas
 pub mod AllLemmas
+pub mod JudgeLemmas
+pub mod FirstLemmas
+pub mod ToldLemmas
+pub mod MixLemmas
+pub mod ClassifyLemmas

@@ -5,3 +5,5 @@ pub mod Flat
 pub mod Handing
 pub mod Parts
 pub mod Deeds
+pub mod Judging
+pub mod Mixing

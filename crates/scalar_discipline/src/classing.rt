@@ -1,16 +1,24 @@
 //! The classes of scalars and the sides of local arrays.
 
-ghost use Rattle.std.specs.Prelude.{◌≡◌, IfOk, length, map, slice_index_or, false};
+ghost use Rattle.std.specs.Prelude.{◌≡◌, ◌≤◌, None, IfErr, IfOk, OnOk, length, map, slice_index_or, false};
 ghost use Rattle.std.specs.List.{enumerate_from};
 ghost use Rattle.sial_syntax.specs.Boxes.{numbers_from};
 ghost use Rattle.sial_syntax.specs.Sides.{all_sided, array_sides, class_by, scalar_classes};
+ghost use Rattle.sial_syntax.specs.Shapes.{first_fault};
+ghost use Rattle.sial_syntax.specs.SideRules.{side_fault, side_faults};
+ghost use Rattle.sial_syntax.specs.Sides as rules;
 ghost use Rattle.sial_syntax.specs.Tree.{tree};
+ghost use Rattle.scalar_discipline.specs.Discipline.{IsFirst, depths_of, seen};
 ghost use Rattle.scalar_discipline.specs.Deeds as spec;
 ghost use Rattle.scalar_discipline.specs.Flat.{sided_of};
 
 use crate::call::{body_calls, calls};
 use crate::deeds::{marks, mixed_within, named_outside, named_within, written_within};
+use crate::depths::call_depths;
+use crate::fault::RuleFault;
 use crate::handing::procedure_sides;
+use crate::judging::first_told;
+use crate::mixing::{first_mixed, lines_outside, lines_within};
 use crate::placed::{Placed, all_placed};
 use sial_syntax::{ArrayDecl, ArrayKind, Classes, Program, ScalarClass, Side, Text};
 use std::alloc::{AllocError, Global};
@@ -125,4 +133,47 @@ fn side(kind: ArrayKind, inner: bool, outer: bool) -> Side
         (ArrayKind::Local, false, true) => Side::Outer,
         _ => Side::Unused,
     }
+}
+
+/// The classes of a program that keeps the side rules; any other is refused by its first fault: recursion, then by line, then by the rule's number.
+pub fn classify(alloc: Global, program: &Program) -> Result<Classes, RuleFault>
+    requires few { length (tree program.now).procedures ≤ 65535 }
+    ensures scalars { IfOk result (λ classes. classes.scalars.items ≡ rules.scalar_classes (tree program.now)) }
+    ensures locals { IfOk result (λ classes. classes.locals.items ≡ rules.array_sides (tree program.now)) }
+    ensures granted { OnOk result (side_fault (tree program.now) ≡ None) }
+    ensures fault { IfErr result (IsFirst (tree program.now)) }
+{
+    let depths = match call_depths(alloc, program) {
+        Ok(depths) => depths,
+        Err(fault) => return Err(fault),
+    };
+    let classes = classes(alloc, program)?;
+    match first_fault(
+        alloc,
+        program,
+        classes.scalars.as_slice(),
+        depths.as_slice(),
+    )? {
+        Some(fault) => Err(fault),
+        None => Ok(classes),
+    }
+}
+
+// The first fault of sides but recursion.
+fn first_fault(
+    alloc: Global,
+    program: &Program,
+    classes: &[ScalarClass],
+    depths: &[u32],
+) -> Result<Option<RuleFault>, AllocError>
+    requires classes { classes.now ≡ rules.scalar_classes (tree program.now) }
+    requires depths { depths.now ≡ depths_of (tree program.now) }
+    ensures { IfOk result (λ found. seen found ≡ first_fault (side_faults (tree program.now))) }
+{
+    let all = all_statements(alloc, program)?;
+    let arrays = program.arrays.as_slice();
+    let first = first_told(program, classes, depths, all.as_slice(), None);
+    let outer = lines_outside(alloc, arrays.len(), all.as_slice())?;
+    let inner = lines_within(alloc, arrays.len(), all.as_slice())?;
+    Ok(first_mixed(outer.as_slice(), inner.as_slice(), arrays, first))
 }

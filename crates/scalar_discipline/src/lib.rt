@@ -7,12 +7,14 @@ mod deeds;
 mod depths;
 mod fault;
 mod handing;
+mod judging;
+mod mixing;
 mod parts;
 mod placed;
 mod reaching;
 mod rounds;
 mod standing;
 
-pub use classing::classes;
+pub use classing::{classes, classify};
 pub use depths::call_depths;
 pub use fault::RuleFault;

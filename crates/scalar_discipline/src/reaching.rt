@@ -88,8 +88,8 @@ fn least_back(reach: &[bool], calls: &[Call]) -> Option<u32>
     first
 }
 
-// The lesser of two lines, where there are any.
-fn lesser(line: Option<u32>, other: Option<u32>) -> Option<u32>
+/// The lesser of two lines, where there are any.
+pub fn lesser(line: Option<u32>, other: Option<u32>) -> Option<u32>
     ensures { result ≡ spec.lesser line other }
 {
     match (line, other) {
