@@ -16,4 +16,6 @@ mod segments;
 #[cfg(test)]
 mod shape_faults;
 #[cfg(test)]
+mod side_faults;
+#[cfg(test)]
 mod space_faults;
