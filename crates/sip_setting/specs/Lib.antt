@@ -1,0 +1,4 @@
+pub mod Given
+pub mod Grants
+pub mod Seen
+pub mod Printing
