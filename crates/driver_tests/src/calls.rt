@@ -40,6 +40,20 @@ pub fn expect(
     assert_eq!(rt; err.bytes(), line);
 }
 
+/// Runs a program over an input, and compares the status and the line.
+pub fn expect_status(
+    rt: &impl Abort,
+    alloc: Global,
+    program: &[u8],
+    input: &[u8],
+    status: u8,
+    line: &[u8],
+) {
+    let mut files = files_with(rt, alloc, program, input);
+    let mut out = MemorySink::new(alloc);
+    expect(rt, alloc, &WORDS, &mut files, &mut out, status, line);
+}
+
 fn owned(alloc: Global, words: &[&str]) -> Result<Vec<String>, AllocError> {
     let mut all = Vec::new(alloc);
     for word in words {

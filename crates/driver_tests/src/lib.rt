@@ -6,6 +6,10 @@ mod calls;
 #[cfg(test)]
 mod files;
 #[cfg(test)]
+mod inputs;
+#[cfg(test)]
+mod rules;
+#[cfg(test)]
 mod runs;
 #[cfg(test)]
 mod texts;

@@ -1,26 +1,10 @@
 //! Texts that are programs of the first profile, texts that nearly are, and texts with a fault.
 
-use crate::calls::{INPUT, PROGRAM, WORDS, expect, files_with};
+use crate::calls::{INPUT, PROGRAM, WORDS, expect, expect_status, files_with};
 use sip_files::MemorySink;
-use std::alloc::Global;
-use std::process::Abort;
-
-// Runs a program over an input, and compares the status and the line.
-fn expect_status(
-    rt: &impl Abort,
-    alloc: Global,
-    program: &[u8],
-    input: &[u8],
-    status: u8,
-    line: &[u8],
-) {
-    let mut files = files_with(rt, alloc, program, input);
-    let mut out = MemorySink::new(alloc);
-    expect(rt, alloc, &WORDS, &mut files, &mut out, status, line);
-}
 
 // The same program in other spellings, and others of the first profile.
-const PROGRAMS: [&[u8]; 10] = [
+const PROGRAMS: [&[u8]; 12] = [
     PROGRAM,
     b"sial e\nendsial e",
     b"\nsial n\n\nendsial n\n\n",
@@ -31,9 +15,16 @@ const PROGRAMS: [&[u8]; 10] = [
     b"sial n\naoindex i = 2, 1\ndo i\nenddo i\ndo i\nenddo i\nendsial n\n",
     b"sial n\naoindex i = 1, 2\nstatic a(i)\ndo i\na(i) = 1\nenddo\nendsial\n",
     b"sial n\naoindex i = 1, 2\nstatic a(i)\ndo i\na(i) = 1\nenddo i\nendsial n\n",
+    b"sial n\nproc p\nendproc p\nendsial n\n",
+    b"sial n\nscalar a\nscalar b\nscalar c\nscalar d\nscalar e\nscalar f\nscalar g\nscalar h\nscalar i\nendsial n\n",
 ];
 
-const INPUTS: [&[u8]; 2] = [b"segments ao 2 1", b"segments ao 1 1024 7"];
+const INPUTS: [&[u8]; 4] = [
+    b"segments ao 2 1",
+    b"segments ao 1 1024 7",
+    b"segments ao 2  1",
+    b"# two\n\nSEGMENTS AO 2 1 \n\n",
+];
 
 #[test]
 fn texts_of_the_first_profile_are_run(rt: HostRuntime) {
@@ -137,46 +128,28 @@ fn a_faulty_text_needs_no_input(rt: HostRuntime) {
     expect(&rt, alloc, &words, &mut files, &mut out, 3, line);
 }
 
-// Programs that aren't of the first profile.
-const OTHER_PROGRAMS: [&[u8]; 16] = [
-    b"sial n\naoindex i = 1, 3\nendsial n\n",
-    b"sial n\naoindex i = 0, 1\nendsial n\n",
+// Programs that the rules grant and the small evaluator can't run.
+const OTHER_PROGRAMS: [&[u8]; 12] = [
     b"sial n\nmoindex i = 1, 1\nendsial n\n",
-    b"sial n\naoindex i = 1, nao\nendsial n\n",
     b"sial n\naoindex i = 1, 1\nsubindex j of i\nendsial n\n",
     b"sial n\naoindex i = 1, 1\ntemp a(i)\nendsial n\n",
     b"sial n\naoindex i = 1, 1\nstatic a(i, i)\nendsial n\n",
     b"sial n\naoindex i = 1, 1\naoindex j = 1, 1\ndo i\ndo j\nenddo j\nenddo i\nendsial n\n",
     b"sial n\naoindex i = 1, 1\naoindex j = 1, 1\nstatic a(i)\ndo j\na(j) = 1\nenddo j\nendsial n\n",
-    b"sial n\naoindex i = 1, 1\nstatic a(i)\na(i) = 1\nendsial n\n",
     b"sial n\naoindex i = 1, 1\nstatic a(i)\ndo i\na(i) *= 2\nenddo i\nendsial n\n",
-    b"sial n\nproc p\nendproc p\nendsial n\n",
+    b"sial n\nproc p\nprint \"text\"\nendproc p\nendsial n\n",
+    b"sial n\nproc p\nendproc p\ncall p\nendsial n\n",
     b"sial n\nscalar s\ns -= 1\nendsial n\n",
     b"sial n\nprint \"text\"\nendsial n\n",
     b"sial n\nsip_barrier\nendsial n\n",
-    b"sial n\nscalar a\nscalar b\nscalar c\nscalar d\nscalar e\nscalar f\nscalar g\nscalar h\nscalar i\nendsial n\n",
 ];
 
-const OTHER_INPUTS: [&[u8]; 10] = [
-    b"",
-    b"segments ao",
-    b"segments ao ",
-    b"segments ao 0 1",
-    b"segments ao 2",
-    b"segments ao 2 1025",
-    b"segments ao 2  1",
-    b"segments ao 2 1 ",
-    b"segments ao 2 1\n\n",
-    b"segments mo 2 1\n",
-];
+const WIDE_INPUT: &[u8] = b"segments ao 2 1\nsegments mo 3\nsubsegment ao 1\n";
 
 #[test]
-fn other_programs_and_inputs_are_refused(rt: HostRuntime) {
+fn other_programs_are_refused_behind_the_rules(rt: HostRuntime) {
     let line = b"sip: syntax line 0: FirstPath\n";
     for program in &OTHER_PROGRAMS {
-        expect_status(&rt, rt.alloc(), program, INPUT, 3, line);
-    }
-    for input in &OTHER_INPUTS {
-        expect_status(&rt, rt.alloc(), PROGRAM, input, 3, line);
+        expect_status(&rt, rt.alloc(), program, WIDE_INPUT, 3, line);
     }
 }

@@ -1,15 +1,7 @@
 pub mod Headline
 pub mod Asked
-pub mod Loads
 pub mod Prints
+pub mod Kinds
 pub mod Says
-pub mod Syntax
 pub mod Performed
-pub mod First
-pub mod Lines
-pub mod Profile
-pub mod FirstLaws
-pub mod Running
-pub mod Ran
-pub mod Reading
-pub mod InputSeen
+pub mod Seen

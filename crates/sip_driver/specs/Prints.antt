@@ -1,21 +1,29 @@
--- What the output gains of the printed lines of a program of the first profile.
+-- What the output gains of the printed lines of a program that runs today.
 use Rattle.std.specs.Prelude.{◌≡◌, ℕ, ◌⊎◌, List, Option}
+use Rattle.first_profile.specs.FirstTree.{IsFirstTree}
+use Rattle.sial_syntax.specs.Tree.{Tree}
 use Rattle.sip_files.specs.Sink.{Gains, GainsPart}
-use Rattle.sip_driver.specs.First.{FirstProgram, printed_text}
-use Rattle.sip_driver.specs.Profile.{IsFirst}
+use Rattle.sip_grant.specs.Granting.{AreTextsOf}
+use Rattle.sip_input.specs.declared.input.Input.{Input}
+use Rattle.sip_setting.specs.Given.{setting_by}
+use Rattle.sip_setting.specs.Printing.{printed_text}
 
--- the output gained the printed lines of the program that the texts are
-abbrev pub Prints : (old new : Option (List ℕ)) → (program input : List ℕ) → Type 0
-Prints old new program input = (path : FirstProgram) × IsFirst program input path × Gains old new (printed_text path)
+-- the texts are those of a program of the first profile and of an input that the rules grant
+pub record AreRun (program_text input_text : List ℕ) (p : Tree) (i : Input) : Type 0 where
+  pub granted : AreTextsOf program_text input_text p i
+  pub first : IsFirstTree p
 
--- the output gained a first part of the printed lines of the program that the texts are
-abbrev pub PrintsPart : (old new : Option (List ℕ)) → (program input : List ℕ) → Type 0
-PrintsPart old new program input = (path : FirstProgram) × IsFirst program input path × GainsPart old new (printed_text path)
+-- the output gained the lines that the sequential meaning of the texts prints
+abbrev pub Prints : (old new : Option (List ℕ)) → (program_text input_text : List ℕ) → Type 0
+Prints old new program_text input_text =
+    (p : Tree) × (i : Input) × AreRun program_text input_text p i × Gains old new (printed_text (setting_by p i))
 
--- the output is as it was, or gained a first part of the printed lines
-abbrev pub PrintsSome : (old new : Option (List ℕ)) → (program input : List ℕ) → Type 0
-PrintsSome old new program input = (new ≡ old) ⊎ PrintsPart old new program input
+-- the output gained a first part of them
+abbrev pub PrintsPart : (old new : Option (List ℕ)) → (program_text input_text : List ℕ) → Type 0
+PrintsPart old new program_text input_text =
+    (p : Tree) × (i : Input) × AreRun program_text input_text p i × GainsPart old new (printed_text (setting_by p i))
 
--- the texts are none of the first profile
-abbrev pub IsNotFirst : (program input : List ℕ) → Type 0
-IsNotFirst program input = (path : FirstProgram) → IsFirst program input path → ⊥
+-- the texts are those of a program and of an input that the rules grant, and the program isn't of the first profile
+abbrev pub IsNotFirst : (program_text input_text : List ℕ) → Type 0
+IsNotFirst program_text input_text =
+    (p : Tree) × (i : Input) × AreTextsOf program_text input_text p i × (IsFirstTree p → ⊥)

@@ -1,56 +1,48 @@
 -- The line of each refusal, and that it went out.
 use Rattle.std.specs.Prelude.{ℕ, ◌⊎◌, List, [], ◌∷◌, ◌++◌, Option, codes, decimal, ◌==◌, if◌then◌else◌}
-use Rattle.sial_lexer.specs.declared.fault.LexKind.{LexKind}
-use Rattle.sial_lexer.specs.declared.fault.LexKind.TheVariants as lex
+use Rattle.index_spaces.specs.declared.fault.SpaceFault.{SpaceFault}
+use Rattle.input_text.specs.declared.fault.InputFault.{InputFault}
+use Rattle.scalar_discipline.specs.declared.fault.RuleFault.{RuleFault}
+use Rattle.shape_check.specs.declared.fault.ShapeFault.{ShapeFault}
 use Rattle.sial_parser.specs.declared.fault.ParseFault.{ParseFault}
-use Rattle.sial_parser.specs.declared.fault.ParseFault.TheVariants.{Lex, Expected, Undeclared, Twice, EndName, TooMany, TooDeep, OutOfMemory}
 use Rattle.sip_files.specs.Files.{Rose}
 use Rattle.sip_files.specs.Sink.{Gains, GainsPart}
+use Rattle.sip_driver.specs.Kinds.{Told, syntax_told, shape_told, side_told, input_told, space_kind_of}
 
 -- the line on a file that wasn't read
 abbrev pub read_line : (name : List ℕ) → List ℕ
 read_line name = codes "sip: read " ++ (name ++ (10 ∷ []))
 
--- the name of a lexer's kind
-abbrev pub lex_kind_of : LexKind → List ℕ
-lex_kind_of lex.BadByte = codes "BadByte"
-lex_kind_of lex.Fraction = codes "Fraction"
-lex_kind_of lex.TooWide = codes "TooWide"
-lex_kind_of lex.OpenText = codes "OpenText"
-lex_kind_of lex.TooLong = codes "TooLong"
-lex_kind_of lex.OutOfMemory = codes "OutOfMemory"
-
--- the name of a fault's kind, of one of the lexer's its own
-abbrev pub kind_of : ParseFault → List ℕ
-kind_of (Lex fault) = lex_kind_of fault.kind
-kind_of (Expected line) = codes "Expected"
-kind_of (Undeclared line) = codes "Undeclared"
-kind_of (Twice line) = codes "Twice"
-kind_of (EndName line) = codes "EndName"
-kind_of (TooMany line which) = codes "TooMany"
-kind_of (TooDeep line) = codes "TooDeep"
-kind_of OutOfMemory = codes "OutOfMemory"
-
--- the line that a fault stands on
-abbrev pub fault_line : ParseFault → ℕ
-fault_line (Lex fault) = fault.line
-fault_line (Expected line) = line
-fault_line (Undeclared line) = line
-fault_line (Twice line) = line
-fault_line (EndName line) = line
-fault_line (TooMany line which) = line
-fault_line (TooDeep line) = line
-fault_line OutOfMemory = 0
+-- a line that begins so and tells a fault's line and kind
+abbrev pub told_line : (front : List ℕ) → Told → List ℕ
+told_line front told = front ++ (decimal told.line ++ (codes ": " ++ (told.kind ++ (10 ∷ []))))
 
 -- the line on a fault of the program's text
 abbrev pub syntax_line : ParseFault → List ℕ
-syntax_line fault = codes "sip: syntax line " ++ (decimal (fault_line fault) ++ (codes ": " ++ (kind_of fault ++ (10 ∷ []))))
+syntax_line fault = told_line (codes "sip: syntax line ") (syntax_told fault)
 
--- the line on texts that are none of the first profile
+-- the line on a shape rule that the program breaks
+abbrev pub shape_line : ShapeFault → List ℕ
+shape_line fault = told_line (codes "sip: rule line ") (shape_told fault)
+
+-- the line on a side rule that the program breaks
+abbrev pub side_line : RuleFault → List ℕ
+side_line fault = told_line (codes "sip: rule line ") (side_told fault)
+
+-- the line on a fault of the input's text
+abbrev pub input_line : InputFault → List ℕ
+input_line fault = told_line (codes "sip: input line ") (input_told fault)
+
+-- the line on an input that doesn't fit: what is refused, its value, and the kind
+abbrev pub space_line : SpaceFault → List ℕ
+space_line fault =
+    codes "sip: space " ++ (fault.name ++ (codes " " ++ (decimal fault.value ++ (codes ": " ++ (space_kind_of fault.kind ++ (10 ∷ []))))))
+
+-- the line on a program that isn't of the first profile
 abbrev pub first_line : List ℕ
 first_line = codes "sip: syntax line 0: FirstPath\n"
 
--- the line of each status but 2 and 3, whose lines tell more; status 0 has none
+-- the line of each status whose line tells no more than the status; status 0 has none
 abbrev pub line_of : (status : ℕ) → List ℕ
 line_of status =
     if status == 1

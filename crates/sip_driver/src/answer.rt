@@ -1,22 +1,18 @@
-//! What a run of the first profile came to.
+//! What a call came to.
 
-use sial_parser::ParseFault;
+use sip_grant::Refusal;
 
-/// How a run ended, before its line is told and its status given.
-#[derive(Clone, Copy)]
+/// How a call ended, before its line is told and its status given.
+#[derive(Drop)]
 pub enum Answer {
     /// The program ran to its end.
     Done,
-    /// The program's file wasn't read.
-    NoProgram,
-    /// The program's text has a fault.
-    NoTree(ParseFault),
-    /// The input's file wasn't read.
-    NoInput,
-    /// The texts are none of the first profile.
+    /// No program was granted.
+    Refused(Refusal),
+    /// The program isn't of the first profile.
     NotFirst,
     /// The output took not all.
     NotWritten,
-    /// No memory was found.
+    /// No memory was found as the program ran.
     OutOfMemory,
 }

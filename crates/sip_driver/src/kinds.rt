@@ -1,29 +1,48 @@
-//! What the line of a syntax fault says of it.
+//! What the line of a fault tells of it: its line, and the name of its kind.
 
 ghost use Rattle.std.specs.Prelude.{◌≡◌};
-ghost use Rattle.sip_driver.specs.Says as spec;
+ghost use Rattle.sip_driver.specs.Kinds as spec;
+ghost use Rattle.sip_driver.specs.Seen.{told_of};
 
+use index_spaces::SpaceKind;
+use input_text::InputFault;
+use scalar_discipline::RuleFault;
+use shape_check::ShapeFault;
 use sial_lexer::LexKind;
 use sial_parser::ParseFault;
 
-/// The name of a fault's kind.
-pub fn kind_of(fault: ParseFault) -> &'static [u8]
-    ensures { result.now ≡ spec.kind_of fault }
+/// A fault's line, and the name of its kind.
+#[derive(Clone, Copy)]
+pub struct Told {
+    pub line: u32,
+    pub kind: &'static [u8],
+}
+
+// A kind at a line.
+fn at(line: u32, kind: &'static [u8]) -> Told
+    ensures { told_of result ≡ spec.at line kind.now }
+{
+    Told { line, kind }
+}
+
+/// A fault of a program's text.
+pub fn syntax_told(fault: ParseFault) -> Told
+    ensures { told_of result ≡ spec.syntax_told fault }
 {
     match fault {
-        ParseFault::Lex(lex) => lex_kind_of(lex.kind),
-        ParseFault::Expected { .. } => b"Expected",
-        ParseFault::Undeclared { .. } => b"Undeclared",
-        ParseFault::Twice { .. } => b"Twice",
-        ParseFault::EndName { .. } => b"EndName",
-        ParseFault::TooMany { .. } => b"TooMany",
-        ParseFault::TooDeep { .. } => b"TooDeep",
-        ParseFault::OutOfMemory => b"OutOfMemory",
+        ParseFault::Lex(lex) => at(lex.line, lex_kind(lex.kind)),
+        ParseFault::Expected { line } => at(line, b"Expected"),
+        ParseFault::Undeclared { line } => at(line, b"Undeclared"),
+        ParseFault::Twice { line } => at(line, b"Twice"),
+        ParseFault::EndName { line } => at(line, b"EndName"),
+        ParseFault::TooMany { line, .. } => at(line, b"TooMany"),
+        ParseFault::TooDeep { line } => at(line, b"TooDeep"),
+        ParseFault::OutOfMemory => at(0, b"OutOfMemory"),
     }
 }
 
 // The name of a lexer's kind.
-fn lex_kind_of(kind: LexKind) -> &'static [u8]
+fn lex_kind(kind: LexKind) -> &'static [u8]
     ensures { result.now ≡ spec.lex_kind_of kind }
 {
     match kind {
@@ -36,18 +55,64 @@ fn lex_kind_of(kind: LexKind) -> &'static [u8]
     }
 }
 
-/// The line that a fault stands on.
-pub fn line_of(fault: ParseFault) -> u32
-    ensures { result ≡ spec.fault_line fault }
+/// A broken shape rule.
+pub fn shape_told(fault: ShapeFault) -> Told
+    ensures { told_of result ≡ spec.shape_told fault }
 {
     match fault {
-        ParseFault::Lex(lex) => lex.line,
-        ParseFault::Expected { line } => line,
-        ParseFault::Undeclared { line } => line,
-        ParseFault::Twice { line } => line,
-        ParseFault::EndName { line } => line,
-        ParseFault::TooMany { line, .. } => line,
-        ParseFault::TooDeep { line } => line,
-        ParseFault::OutOfMemory => 0,
+        ShapeFault::Unbound { line } => at(line, b"Unbound"),
+        ShapeFault::Rebound { line } => at(line, b"Rebound"),
+        ShapeFault::Repeated { line } => at(line, b"Repeated"),
+        ShapeFault::WrongKind { line } => at(line, b"WrongKind"),
+        ShapeFault::WrongIndices { line } => at(line, b"WrongIndices"),
+        ShapeFault::NotWritable { line } => at(line, b"NotWritable"),
+        ShapeFault::OutOfMemory => at(0, b"OutOfMemory"),
+    }
+}
+
+/// A broken side rule.
+pub fn side_told(fault: RuleFault) -> Told
+    ensures { told_of result ≡ spec.side_told fault }
+{
+    match fault {
+        RuleFault::PardoInPardo { line } => at(line, b"PardoInPardo"),
+        RuleFault::SharedWriteOutside { line } => at(line, b"SharedWriteOutside"),
+        RuleFault::SyncInside { line } => at(line, b"SyncInside"),
+        RuleFault::PrintInside { line } => at(line, b"PrintInside"),
+        RuleFault::StaticWriteInside { line } => at(line, b"StaticWriteInside"),
+        RuleFault::MixedLocal { line } => at(line, b"MixedLocal"),
+        RuleFault::MixedScalar { line } => at(line, b"MixedScalar"),
+        RuleFault::PartialRead { line } => at(line, b"PartialRead"),
+        RuleFault::Recursion { line } => at(line, b"Recursion"),
+        RuleFault::CallTooDeep { line } => at(line, b"CallTooDeep"),
+        RuleFault::OutOfMemory => at(0, b"OutOfMemory"),
+    }
+}
+
+/// A fault of an input's text.
+pub fn input_told(fault: InputFault) -> Told
+    ensures { told_of result ≡ spec.input_told fault }
+{
+    match fault {
+        InputFault::BadLine { line } => at(line, b"BadLine"),
+        InputFault::TooWide { line } => at(line, b"TooWide"),
+        InputFault::Twice { line } => at(line, b"Twice"),
+        InputFault::TooMany { line } => at(line, b"TooMany"),
+        InputFault::OutOfMemory => at(0, b"OutOfMemory"),
+    }
+}
+
+/// The name of the kind of what doesn't fit.
+pub fn space_kind(kind: SpaceKind) -> &'static [u8]
+    ensures { result.now ≡ spec.space_kind_of kind }
+{
+    match kind {
+        SpaceKind::NoConstant => b"NoConstant",
+        SpaceKind::NoSegment => b"NoSegment",
+        SpaceKind::NotWithin => b"NotWithin",
+        SpaceKind::BlockTooWide => b"BlockTooWide",
+        SpaceKind::TooManyBlocks => b"TooManyBlocks",
+        SpaceKind::BadStart => b"BadStart",
+        SpaceKind::OutOfMemory => b"OutOfMemory",
     }
 }

@@ -11,8 +11,12 @@ impl Status {
     pub const USAGE: Status = Status(1);
     /// A file couldn't be read.
     pub const READ_FAULT: Status = Status(2);
-    /// The texts are no program.
+    /// The text is no program, or none that runs today.
     pub const SYNTAX: Status = Status(3);
+    /// The program breaks a rule.
+    pub const RULE: Status = Status(4);
+    /// The input is none, or none for the program.
+    pub const INPUT: Status = Status(5);
     /// The output couldn't be written.
     pub const WRITE_FAULT: Status = Status(10);
     /// No memory was found.

@@ -1,7 +1,8 @@
 //! The words that the program is called with.
 
 ghost use Rattle.std.specs.Prelude.{◌≡◌, option_map};
-ghost use Rattle.sip_driver.specs.Asked.{named, asked};
+ghost use Rattle.sip_driver.specs.Asked.{asked};
+ghost use Rattle.sip_grant.specs.Names.{named};
 
 /// The files of the program and of its input, where the words are four with `run` second.
 pub fn files_asked(words: &[String]) -> Option<(&str, &str)>

@@ -1,7 +1,0 @@
-use Rattle.std.proofs.Common.{◌≡◌, drop}
-use Rattle.sip_driver.specs.Reading.{number_from}
-use Rattle.sip_driver.proofs.numerals.number_from_zero.Given as goal
-
--- what is left makes the same number
-abbrev pub invariant-loop-digit : goal.invariant-loop-digit
-invariant-loop-digit l = number_from l.value (drop l.digit-index l.digits) ≡ number_from 0 l.digits

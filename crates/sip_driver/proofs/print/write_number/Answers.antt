@@ -1,6 +1,0 @@
-use Rattle.std.proofs.Common.{decimal, [], ◌∷◌, ◌++◌}
-use Rattle.sip_files.proofs.SinkLemmas.{then_wrote}
-use Rattle.sip_driver.proofs.print.write_number.Goals as goal
-
-pub returns-in-Ok : goal.returns-in-Ok
-returns-in-Ok g c = then_wrote {xs = 32 ∷ []} {ys = decimal c.args.number ++ 10 ∷ []} c.write_digits.result c.in-Ok.ensures c.write_digits.ensures

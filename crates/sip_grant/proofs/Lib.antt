@@ -1,0 +1,4 @@
+mod SyntaxLemmas
+mod RuledLemmas
+mod FittedLemmas
+mod LoadLemmas

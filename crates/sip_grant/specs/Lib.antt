@@ -1,0 +1,7 @@
+pub mod Names
+pub mod Programs
+pub mod Syntax
+pub mod Granting
+pub mod Loads
+pub mod Refusals
+pub mod Ruled

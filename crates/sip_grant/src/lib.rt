@@ -1,0 +1,11 @@
+//! From the names of two files to a program that the rules grant, or the first reason against it.
+#![tactic(auto)]
+
+mod fitted;
+mod granted;
+mod refusal;
+mod ruled;
+mod text;
+
+pub use granted::load_granted;
+pub use refusal::Refusal;
