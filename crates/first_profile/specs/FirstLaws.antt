@@ -1,0 +1,16 @@
+-- Laws of the first profile.
+use Rattle.sial_meaning.specs.Meaning.{sequential}
+use Rattle.sial_meaning.specs.Setting.{Setting}
+use Rattle.sial_meaning.specs.Statement.{Outcome, Went, Stopped}
+use Rattle.first_profile.specs.FirstTree.{IsFirstTree}
+use Rattle.first_profile.specs.Ready.{IsReady}
+
+-- the outcome is no trap
+abbrev pub IsThrough : Outcome → Type 0
+IsThrough (Went s) = Unit {0}
+IsThrough (Stopped trap s) = ⊥
+
+-- a program of the first profile in a setting that is ready has no trap: its sequential meaning comes to the end, so its printed
+-- lines are those of a whole run
+abbrev pub FirstHasNoTrap : Type 0
+FirstHasNoTrap = (g : Setting) → IsFirstTree g.program → IsReady g → IsThrough (sequential g)
