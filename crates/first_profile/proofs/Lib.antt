@@ -8,6 +8,7 @@ mod NumbersFrom
 mod NumbersLemmas
 mod Places
 mod ProfileLemmas
+mod ReadyLemmas
 mod SegmentLemmas
 mod Sequential
 mod SoundLemmas

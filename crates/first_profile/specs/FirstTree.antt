@@ -42,7 +42,8 @@ abbrev mutual
   IsForm p loop (Assign (target.Block t) Add (One (operand.Block b))) = IsBlock p loop t × IsBlock p loop b
   IsForm p loop (Assign (target.Scalar s) Set (One (operand.Number n))) = IsScalar p s
   IsForm p loop (Assign (target.Scalar s) Add (One (operand.Number n))) = IsScalar p s
-  IsForm p loop (Assign (target.Scalar s) Set (Two (operand.Block a) Times (operand.Block b))) = IsScalar p s × IsBlock p loop a × IsBlock p loop b
+  IsForm p loop (Assign (target.Scalar s) Set (Two (operand.Block a) Times (operand.Block b))) =
+      IsScalar p s × IsBlock p loop a × IsBlock p loop b
   IsForm p loop (PrintScalar s) = IsScalar p s
   IsForm p loop _ = ⊥
 

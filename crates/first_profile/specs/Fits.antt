@@ -15,9 +15,11 @@ pub record Fits (g : Setting) (m : Numbers) : Type 0 where
   pub values : length m.values ≡ length g.program.indices
   pub scalars : length m.scalars ≡ length g.program.scalars
   pub arrays : length m.statics ≡ length g.program.arrays
-  pub blocks : (array : ℕ) → array < length g.program.arrays → length (slice_index_or m.statics array []) ≡ count_of g.spaces (index_of g array)
+  pub blocks : (array : ℕ) → array < length g.program.arrays
+      → length (slice_index_or m.statics array []) ≡ count_of g.spaces (index_of g array)
   pub words : (array number : ℕ) → array < length g.program.arrays → number < count_of g.spaces (index_of g array)
-      → length (slice_index_or (slice_index_or m.statics array []) number []) ≡ segment_len g (index_of g array) (first_of g.spaces (index_of g array) + number)
+      → length (slice_index_or (slice_index_or m.statics array []) number [])
+      ≡ segment_len g (index_of g array) (first_of g.spaces (index_of g array) + number)
 
 -- the index of the loop has the number of one of its segments
 pub record IsAt (g : Setting) (m : Numbers) (index : ℕ) : Type 0 where

@@ -54,7 +54,8 @@ is_block_assignment p loop block _ _ = false
 abbrev pub is_scalar_assignment : Tree → Option ℕ → ℕ → Op → Right → Bool
 is_scalar_assignment p loop scalar Set (One (operand.Number n)) = is_scalar p scalar
 is_scalar_assignment p loop scalar Add (One (operand.Number n)) = is_scalar p scalar
-is_scalar_assignment p loop scalar Set (Two (operand.Block a) Times (operand.Block b)) = is_scalar p scalar && (is_block p loop a && is_block p loop b)
+is_scalar_assignment p loop scalar Set (Two (operand.Block a) Times (operand.Block b)) =
+    is_scalar p scalar && (is_block p loop a && is_block p loop b)
 is_scalar_assignment p loop scalar _ _ = false
 
 -- whether an assignment is of the profile

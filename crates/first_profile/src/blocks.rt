@@ -39,7 +39,8 @@ pub fn fill(
     number: u64,
 ) -> Result<(), AllocError>
     requires held { IsHeld (setting_of granted.now) machine.old block.now }
-    ensures { OnOk result (machine.new ≡ with_words (setting_of granted.now) block.now (replicate (length (words_of (setting_of granted.now) machine.old block.now)) number) machine.old) }
+    ensures { OnOk result (machine.new ≡ with_words (setting_of granted.now) block.now
+        (replicate (length (words_of (setting_of granted.now) machine.old block.now)) number) machine.old) }
 {
     let count = words(granted, machine, block).len();
     let filled = vec![in alloc; number; count]?;
@@ -58,8 +59,11 @@ pub fn add(
 ) -> Result<(), AllocError>
     requires held { IsHeld (setting_of granted.now) machine.old block.now }
     requires other { IsHeld (setting_of granted.now) machine.old other.now }
-    requires len { length (words_of (setting_of granted.now) machine.old block.now) ≡ length (words_of (setting_of granted.now) machine.old other.now) }
-    ensures { OnOk result (machine.new ≡ with_words (setting_of granted.now) block.now (sums (words_of (setting_of granted.now) machine.old block.now) (words_of (setting_of granted.now) machine.old other.now)) machine.old) }
+    requires len { length (words_of (setting_of granted.now) machine.old block.now)
+        ≡ length (words_of (setting_of granted.now) machine.old other.now) }
+    ensures { OnOk result (machine.new ≡ with_words (setting_of granted.now) block.now
+        (sums (words_of (setting_of granted.now) machine.old block.now)
+        (words_of (setting_of granted.now) machine.old other.now)) machine.old) }
 {
     let mut summed = Vec::from_slice(alloc, words(granted, machine, block))?;
     block_math::add(summed.as_mut_slice(), words(granted, machine, other));
@@ -79,8 +83,11 @@ pub fn contract(
     requires scalar { scalar < length machine.old.scalars }
     requires left { IsHeld (setting_of granted.now) machine.old left.now }
     requires right { IsHeld (setting_of granted.now) machine.old right.now }
-    requires len { length (words_of (setting_of granted.now) machine.old left.now) ≡ length (words_of (setting_of granted.now) machine.old right.now) }
-    ensures { machine.new ≡ with_scalar scalar (dot_of (words_of (setting_of granted.now) machine.old left.now) (words_of (setting_of granted.now) machine.old right.now)) machine.old }
+    requires len { length (words_of (setting_of granted.now) machine.old left.now)
+        ≡ length (words_of (setting_of granted.now) machine.old right.now) }
+    ensures { machine.new ≡ with_scalar scalar
+        (dot_of (words_of (setting_of granted.now) machine.old left.now)
+        (words_of (setting_of granted.now) machine.old right.now)) machine.old }
 {
     let product = block_math::dot(
         words(granted, machine, left),

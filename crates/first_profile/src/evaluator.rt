@@ -5,17 +5,17 @@ ghost use Rattle.sial_syntax.specs.Tree.{tree};
 ghost use Rattle.sip_setting.specs.Printing.{printed_text};
 ghost use Rattle.sip_setting.specs.Seen.{setting_of};
 ghost use Rattle.first_profile.specs.FirstTree.{IsFirstTree};
-ghost use Rattle.first_profile.specs.Ready.{IsReady};
+ghost use Rattle.first_profile.specs.Ready.{IsGranted};
 
 use crate::start::start;
 use crate::statements::run_body;
 use sip_setting::Granted;
 use std::alloc::{AllocError, Global};
 
-/// Runs a program from its start: the text of the lines that its sequential meaning prints, unless memory runs out.
+/// Runs a granted program from its start: the text that its sequential meaning prints, unless memory runs out.
 pub fn run(alloc: Global, granted: &Granted) -> Result<Vec<u8>, AllocError>
     requires first { IsFirstTree (tree granted.now.program) }
-    requires ready { IsReady (setting_of granted.now) }
+    requires granted { IsGranted granted.now }
     ensures { IfOk result (λ printed. printed.items ≡ printed_text (setting_of granted.now)) }
 {
     let mut machine = start(alloc, granted)?;

@@ -12,5 +12,5 @@ mod start;
 mod statements;
 
 pub use evaluator::run;
-pub use laws::first_programs_have_no_trap;
+pub use laws::{first_programs_have_no_trap, granted_programs_are_ready, granted_trees_run};
 pub use profile::is_first_tree;

@@ -16,13 +16,21 @@ pub struct Machine {
 impl Model for Machine {
     ghost Value = { Numbers };
 
-    ghost view = { λ m. record { values = m.values.items; scalars = m.scalars.items; statics = map (λ a. map (λ b. b.items) a.items) m.statics.items } };
+    ghost view = { λ m. record {
+      values = m.values.items;
+      scalars = m.scalars.items;
+      statics = map (λ a. map (λ b. b.items) a.items) m.statics.items;
+    } };
 }
 
 impl Machine {
     /// The numbers of indices, scalars and blocks.
     pub fn new(values: Vec<u32>, scalars: Vec<u64>, statics: Vec<Vec<Vec<u64>>>) -> Machine
-        ensures { result ≡ record { values = values.items; scalars = scalars.items; statics = map (λ a. map (λ b. b.items) a.items) statics.items } }
+        ensures { result ≡ record {
+          values = values.items;
+          scalars = scalars.items;
+          statics = map (λ a. map (λ b. b.items) a.items) statics.items;
+        } }
     {
         Machine {
             values,
@@ -77,7 +85,10 @@ impl Machine {
     pub fn set_block(&mut self, array: u16, number: usize, words: Vec<u64>)
         requires array { array < length self.old.statics }
         requires number { number < length (slice_index_or self.old.statics array []) }
-        ensures { self.new ≡ record self.old { statics = slice_set self.old.statics array (slice_set (slice_index_or self.old.statics array []) number words.items) } }
+        ensures { self.new ≡ record self.old {
+          statics = slice_set self.old.statics array
+              (slice_set (slice_index_or self.old.statics array []) number words.items);
+        } }
     {
         let blocks = &mut self.statics[array as usize];
         blocks[number] = words;

@@ -32,7 +32,8 @@ pub fn run_body(
     requires body { IsBody (setting_of granted.now).program within (block stmts.now) }
 
     ensures numbers { OnOk result (machine.new ≡ body_numbers (setting_of granted.now) (block stmts.now) machine.old) }
-    ensures printed { OnOk result (out.new.items ≡ out.old.items ++ text_of (body_prints (setting_of granted.now) (block stmts.now) machine.old)) }
+    ensures printed { OnOk result (out.new.items
+        ≡ out.old.items ++ text_of (body_prints (setting_of granted.now) (block stmts.now) machine.old)) }
 {
     for stmt in stmts {
         run_form(alloc, granted, within, &stmt.form, machine, out)?;
@@ -55,7 +56,8 @@ fn run_form(
     requires form { IsForm (setting_of granted.now).program within (plain_form form.now) }
 
     ensures numbers { OnOk result (machine.new ≡ form_numbers (setting_of granted.now) (plain_form form.now) machine.old) }
-    ensures printed { OnOk result (out.new.items ≡ out.old.items ++ text_of (form_prints (setting_of granted.now) (plain_form form.now) machine.old)) }
+    ensures printed { OnOk result (out.new.items
+        ≡ out.old.items ++ text_of (form_prints (setting_of granted.now) (plain_form form.now) machine.old)) }
 {
     match form {
         Form::Do { index, body } => run_loop(alloc, granted, *index, body.as_slice(), machine, out),
@@ -82,7 +84,8 @@ fn run_loop(
     requires body { IsBody (setting_of granted.now).program (Some index) (block stmts.now) }
 
     ensures numbers { OnOk result (machine.new ≡ form_numbers (setting_of granted.now) (Do index (block stmts.now)) machine.old) }
-    ensures printed { OnOk result (out.new.items ≡ out.old.items ++ text_of (form_prints (setting_of granted.now) (Do index (block stmts.now)) machine.old)) }
+    ensures printed { OnOk result (out.new.items
+        ≡ out.old.items ++ text_of (form_prints (setting_of granted.now) (Do index (block stmts.now)) machine.old)) }
 {
     let (first, count) = granted.spaces.range(index);
     for turn in 0..count {
