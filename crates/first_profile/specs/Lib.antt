@@ -1,0 +1,6 @@
+pub mod FirstTree
+pub mod Looking
+pub mod Ready
+pub mod Running
+pub mod Fits
+pub mod FirstLaws
