@@ -67,6 +67,6 @@ performs load old new names written faults before after job (Refused refusal) te
 performs load old new names written faults before after job NotFirst (program, input, read, is) runs =
     ((program, input, read, not_first program input job is runs.0), runs.1)
 performs load old new names written faults before after job NotWritten (program, input, read, is) runs =
-    (runs.0, (program, input, read, prints_part (written before) (written after) program input job is runs.1.0 runs.1.1))
+    (runs.0, (program, input, read, prints_part (written before) (written after) program input job is runs.1 runs.2))
 performs load old new names written faults before after job OutOfMemory (program, input, read, is) runs =
     (program, input, read, prints_part (written before) (written after) program input job is runs.0 runs.1)

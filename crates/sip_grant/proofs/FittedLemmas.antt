@@ -5,6 +5,7 @@ use Rattle.index_spaces.specs.Placed.{Placed}
 use Rattle.index_spaces.specs.Refusing as spaces
 use Rattle.index_spaces.specs.Refusing.{refusal}
 use Rattle.index_spaces.specs.Starting.{blocks_in}
+use Rattle.index_spaces.specs.declared.start.Start.{Start}
 use Rattle.index_spaces.specs.declared.fault.SpaceFault.{SpaceFault}
 use Rattle.index_spaces.specs.declared.fault.SpaceKind.{SpaceKind}
 use Rattle.index_spaces.specs.declared.fault.SpaceKind.TheVariants as kind
@@ -64,29 +65,45 @@ blames_misfit p text i OutOfMemory is blames = tt
 
 -- settings whose parts are the same
 same_setting :
-    {a b : meaning.Setting}
-    → a.program ≡ b.program
-    → a.scalars ≡ b.scalars
-    → a.sides ≡ b.sides
-    → a.spaces ≡ b.spaces
-    → a.numbers ≡ b.numbers
-    → a.blocks ≡ b.blocks
-    → a ≡ b
-same_setting program scalars sides spaces numbers blocks = cc
+    (p : Tree)
+    {scalars classes : List ScalarClass}
+    {sides locals : List Side}
+    {spaces others : Spaces}
+    {numbers starts : List ℕ}
+    {blocks givens : List meaning.Given}
+    → scalars ≡ classes
+    → sides ≡ locals
+    → spaces ≡ others
+    → numbers ≡ starts
+    → blocks ≡ givens
+    → ◌≡◌ {A = meaning.Setting}
+        (record { program = p; scalars = scalars; sides = sides; spaces = spaces; numbers = numbers; blocks = blocks })
+        (record { program = p; scalars = classes; sides = locals; spaces = others; numbers = starts; blocks = givens })
+same_setting p of_scalars of_sides of_spaces of_numbers of_blocks = cc
 
 -- What `resolve` gives a program that keeps the rules is granted.
 pub is_granted :
     (r : Ruled)
     (i : Input)
-    (job : Granted)
+    (spaces : Placed)
+    (start : Start)
     → IsKept r
     → IsInput i
-    → job.program ≡ r.program
-    → job.classes ≡ r.classes
     → refusal (tree r.program) r.classes.scalars.items i ≡ None
-    → job.spaces ≡ placed_by (tree r.program) i
-    → AreSpacesBy (constants_of i) (tree r.program) job.spaces.spaces
-    → job.start.scalars.items ≡ numbers_given (tree r.program) i
-    → blocks_in job.start ≡ blocks_given (tree r.program) job.spaces.spaces i
-    → IsGrantedBy i job
-is_granted r i job kept proper program classes fits placed own numbers blocks = ?
+    → spaces ≡ placed_by (tree r.program) i
+    → AreSpacesBy (constants_of i) (tree r.program) spaces.spaces
+    → start.scalars.items ≡ numbers_given (tree r.program) i
+    → blocks_in start ≡ blocks_given (tree r.program) spaces.spaces i
+    → IsGrantedBy i (record { program = r.program; classes = r.classes; spaces = spaces; start = start })
+is_granted r i spaces start kept proper fits placed own numbers blocks = record {
+  proper = kept.proper;
+  input_is = proper;
+  granted = record {
+    rules = kept.rules;
+    fits = subst (λ (c : List ScalarClass). refusal (tree r.program) c i ≡ None) kept.scalars fits;
+  };
+  placed = placed;
+  spaces = own;
+  setting = same_setting (tree r.program) kept.scalars kept.locals (ap (λ (s : Placed). s.spaces) placed) numbers
+      (ap (λ (bs : List Given). map given bs) (blocks ∙ ap (λ (s : Placed). blocks_given (tree r.program) s.spaces i) placed));
+}

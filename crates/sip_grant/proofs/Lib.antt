@@ -1,3 +1,4 @@
+mod AnswerLemmas
 mod SyntaxLemmas
 mod RuledLemmas
 mod FittedLemmas

@@ -20,7 +20,7 @@ use sip_setting::Granted;
 use std::alloc::Global;
 
 /// A program with the input of a text, if they fit.
-#[tactic(auto, using(crate::proofs::FittedLemmas::granted_with, crate::proofs::FittedLemmas::blames_input))]
+#[tactic(auto, using(crate::proofs::FittedLemmas::blames_bad))]
 pub fn fitted(alloc: Global, ruled: Ruled, text: &[u8]) -> Result<Granted, Refusal>
     requires kept { IsKept ruled }
     requires short { length text.now < 2 ^ 31 }

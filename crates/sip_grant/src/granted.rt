@@ -22,7 +22,6 @@ const MOST_PROGRAM: u64 = 16_777_216;
 const MOST_INPUT: u64 = 1_048_576;
 
 /// Loads a program, of at most 16 MiB, and, if it keeps the rules, its input, of at most 1 MiB.
-#[tactic(auto, using(crate::proofs::LoadLemmas::granted_for, crate::proofs::LoadLemmas::refuses_texts, crate::proofs::LoadLemmas::no_input, crate::proofs::LoadLemmas::starved))]
 pub fn load_granted<F: Files>(
     alloc: Global,
     files: &mut F,
