@@ -1,4 +1,5 @@
-mod WroteLemmas
 mod PerformLemmas
 mod ReadLemmas
 mod RefusedLemmas
+mod SaysLemmas
+mod WroteLemmas

@@ -26,8 +26,7 @@ module _
     (faults : F → Call → ℕ)
     (overlong : F → ℕ)
     (old new : F)
-    (names : Names)
-where
+    (names : Names) where
   -- a program that was read
   pub program_readable : (mid : F) (text : List ℕ) → Loading gives told faults overlong old (program_of names) (Ok tt) text mid → IsUnreadable (told old) (program_of names) → ⊥
   program_readable mid text load unreadable = readable (told old) (program_of names) text load.1 unreadable
@@ -47,7 +46,7 @@ where
 
   -- their input
   pub input_of_texts : (fact : List ℕ → List ℕ → Type 0) → ForTexts (Loading gives told faults overlong) old new names fact → IsUnreadable (told old) (input_of names) → ⊥
-  input_of_texts fact (program, input, (mid, first, holds, (next, second, rest)), is) unreadable = input_readable mid next program input first second unreadable
+  input_of_texts fact (program, input, (mid, first, holds, (next, second, any, same)), is) unreadable = input_readable mid next program input first second unreadable
 
   -- what follows of files that can't be read, for the names that the words have
   pub for_named : (words : List (String Global)) (status : ℕ) (unparsed unruled : Type 0)

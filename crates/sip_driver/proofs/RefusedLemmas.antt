@@ -29,8 +29,7 @@ module _
     (old new : F)
     (words : List (String Global))
     (names : Names)
-    (says : List ℕ → Type 0)
-where
+    (says : List ℕ → Type 0) where
   -- 2
   pub unread : (status : ℕ) (refusal : Refusal) → asked words ≡ Some names → Refuses load old new names refusal → says (line_on names refusal) → status ≡ status_of refusal → status ≡ 2 → Unread words load old new says
   unread status NoProgram is refuses said gives e = for_names words names _ is (names.program, refuses, said)
@@ -138,8 +137,7 @@ module _
     (old new : F)
     (words : List (String Global))
     (names : Names)
-    (says : List ℕ → Type 0)
-where
+    (says : List ℕ → Type 0) where
   -- what it says of files that can't be read
   pub unreadable : (status : ℕ) (refusal : Refusal)
       → asked words ≡ Some names

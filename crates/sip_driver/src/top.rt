@@ -19,6 +19,7 @@ use std::alloc::Global;
 /// Does what the words ask for: `sip run <program> <input>` runs a program of the first profile over its input, if the rules grant both.
 ///
 /// The output gains the printed lines, each as it comes; a refusal has its one line on `err`.
+#[tactic(auto, using(crate::proofs::RefusedLemmas::unread, crate::proofs::RefusedLemmas::memory, crate::proofs::RefusedLemmas::answers, crate::proofs::RefusedLemmas::from_two, crate::proofs::RefusedLemmas::not_ten, crate::proofs::RefusedLemmas::line, crate::proofs::ReadLemmas::both_readable))]
 pub fn sip<F: Files, K: Sink>(
     alloc: Global,
     words: &[String],
