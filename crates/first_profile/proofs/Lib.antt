@@ -7,7 +7,9 @@ mod Meant
 mod NumbersFrom
 mod NumbersLemmas
 mod Places
+mod Printed
 mod ProfileLemmas
+mod RanLemmas
 mod ReadyLemmas
 mod SegmentLemmas
 mod Sequential
@@ -17,3 +19,4 @@ mod StartLemmas
 mod StatementsLemmas
 mod ThroughLemmas
 mod Worked
+mod WroteLemmas

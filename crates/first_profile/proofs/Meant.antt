@@ -1,5 +1,5 @@
 -- What is worked out on plain numbers is what the sequential meaning makes of them.
-use Rattle.std.proofs.Common.{◌≡◌, ℕ, List, [], ◌∷◌, ◌++◌, map, Option, Some, refl, ap, ◌∙◌, subst, unwrap_or}
+use Rattle.std.proofs.Common.{◌≡◌, ℕ, List, [], ◌∷◌, map, Option, Some, Result, refl, sym, ap, ◌∙◌, subst, unwrap_or}
 use Rattle.sial_syntax.specs.Tree.{Block, Then, Plain}
 use Rattle.sial_meaning.specs.Meaning.{calls, call_depth}
 use Rattle.sial_meaning.specs.Statement.{Present}
@@ -9,7 +9,11 @@ use Rattle.first_profile.proofs.Sequential.{form_law, body_law}
 use Rattle.first_profile.proofs.Worked.{ran, ran_form, form_lines, body_lines}
 use Rattle.first_profile.specs.FirstTree.{IsBody, IsForm}
 use Rattle.first_profile.specs.Fits.{Fits, IsWithin}
+use Rattle.first_profile.specs.Ran.{Ran}
 use Rattle.first_profile.specs.Ready.{IsFirstSetting}
+use Rattle.first_profile.specs.declared.fault.RunFault.{RunFault}
+use Rattle.first_profile.proofs.RanLemmas.{same_ran}
+use Rattle.sip_files.specs.Kept.{Kept}
 use Rattle.sial_meaning.specs.Setting.{Setting}
 use Rattle.sip_setting.specs.Printing.{lines_of, text_of}
 
@@ -56,7 +60,13 @@ pub next-numbers : {g : Setting} {loop : Option ℕ} {body : Block} {all m n : N
 next-numbers {g = g} {loop = loop} {m = m} {form = form} is left front numbers = numbers ∙ form-numbers g loop m is left.fits left.within form (front-form left front)
 
 -- its lines, worked out
-pub next-prints : {g : Setting} {loop : Option ℕ} {body : Block} {all m : Numbers} {line : ℕ} {form : Plain} {rest : Block} (out new : List ℕ) → IsFirstSetting g
-    → Left g loop body all m → body ≡ Then line form rest → new ≡ out ++ text_of (form_prints g form m) → new ≡ out ++ text_of (form_lines g form m)
-next-prints {g = g} {loop = loop} {m = m} {form = form} out new is left front printed =
-    printed ∙ ap (λ ls. out ++ text_of ls) (form-prints g loop m is left.fits left.within form (front-form left front))
+pub next-ran : {old new : Option (List ℕ)} {before now : ℕ} {was kept : Kept} {result : Result (Unit {0}) RunFault} {g : Setting} {loop : Option ℕ} {body : Block} {all m : Numbers} {line : ℕ} {form : Plain} {rest : Block} → IsFirstSetting g → Left g loop body all m → body ≡ Then line form rest → Ran old new before now was kept (text_of (form_prints g form m)) result → Ran old new before now was kept (text_of (form_lines g form m)) result
+next-ran {g = g} {loop = loop} {m = m} {form = form} is left front wrote = same_ran (ap text_of (form-prints g loop m is left.fits left.within form (front-form left front))) wrote
+
+-- the lines of a body, as the meaning has them
+pub whole-ran : {old new : Option (List ℕ)} {before now : ℕ} {was kept : Kept} {result : Result (Unit {0}) RunFault} (g : Setting) (loop : Option ℕ) (m : Numbers) (body : Block) → IsFirstSetting g → Fits g m → IsWithin g m loop → IsBody g.program loop body → Ran old new before now was kept (text_of (body_lines g body m)) result → Ran old new before now was kept (text_of (body_prints g body m)) result
+whole-ran g loop m body is fits within body_is wrote = same_ran (sym (ap text_of (body-prints g loop m is fits within body body_is))) wrote
+
+-- the lines of a statement, as the meaning has them
+pub form-ran : {old new : Option (List ℕ)} {before now : ℕ} {was kept : Kept} {result : Result (Unit {0}) RunFault} (g : Setting) (loop : Option ℕ) (m : Numbers) (form : Plain) → IsFirstSetting g → Fits g m → IsWithin g m loop → IsForm g.program loop form → Ran old new before now was kept (text_of (form_lines g form m)) result → Ran old new before now was kept (text_of (form_prints g form m)) result
+form-ran g loop m form is fits within form_is wrote = same_ran (sym (ap text_of (form-prints g loop m is fits within form form_is))) wrote

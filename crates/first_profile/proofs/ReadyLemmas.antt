@@ -21,10 +21,8 @@ use Rattle.index_spaces.proofs.GrantedLemmas.{has-place, neither}
 use Rattle.index_spaces.proofs.SoonerLemmas.{neither-sooner}
 use Rattle.sip_setting.specs.Given.{given, setting_by}
 use Rattle.sip_setting.specs.Seen.{setting_of}
-use Rattle.sip_setting.specs.declared.granted.Granted.{Granted}
-use Rattle.first_profile.specs.FirstTree.{IsFirstTree}
 use Rattle.first_profile.specs.FirstLaws.{GrantedIsReady, GrantedTreesRun}
-use Rattle.first_profile.specs.Ready.{IsFirstSetting, IsGranted, IsStart}
+use Rattle.first_profile.specs.Ready.{IsStart}
 use Rattle.first_profile.proofs.ThroughLemmas.{no_trap}
 
 -- a start value that isn't refused fits
@@ -112,7 +110,3 @@ is-ready input job granted =
 -- and runs to its end, where its tree is of the first profile
 pub trees-run : GrantedTreesRun
 trees-run input job granted first = no_trap (setting_of job) first (is-ready input job granted)
-
--- so it is a setting of the first profile
-pub first-setting : (job : Granted) → IsFirstTree (tree job.program) → IsGranted job → IsFirstSetting (setting_of job)
-first-setting job first granted = record { tree = first; ready = is-ready granted.0 job granted.1 }

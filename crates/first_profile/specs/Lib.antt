@@ -3,4 +3,5 @@ pub mod Looking
 pub mod Ready
 pub mod Running
 pub mod Fits
+pub mod Ran
 pub mod FirstLaws

@@ -3,9 +3,6 @@ use Rattle.std.specs.Prelude.{◌≡◌, ◌<◌, length, All}
 use Rattle.sial_syntax.specs.Resolved.{AreSpacesOf}
 use Rattle.sial_syntax.specs.Sides.{scalar_classes}
 use Rattle.sial_meaning.specs.Setting.{Setting, Given, block_count, block_words}
-use Rattle.sip_input.specs.declared.input.Input.{Input}
-use Rattle.sip_setting.specs.Seen.{IsGrantedBy}
-use Rattle.sip_setting.specs.declared.granted.Granted.{Granted}
 use Rattle.first_profile.specs.FirstTree.{IsFirstTree}
 
 -- a given block is one of an array's, and has as many elements as that block
@@ -26,7 +23,3 @@ pub record IsReady (g : Setting) : Type 0 where
 pub record IsFirstSetting (g : Setting) : Type 0 where
   pub tree : IsFirstTree g.program
   pub ready : IsReady g
-
--- the rules granted it, with some input
-abbrev pub IsGranted : Granted → Type 0
-IsGranted job = (input : Input) × IsGrantedBy input job

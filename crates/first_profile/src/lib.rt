@@ -4,6 +4,7 @@
 mod assign;
 mod blocks;
 mod evaluator;
+mod fault;
 mod laws;
 mod machine;
 mod print;
@@ -12,5 +13,6 @@ mod start;
 mod statements;
 
 pub use evaluator::run;
+pub use fault::RunFault;
 pub use laws::{first_programs_have_no_trap, granted_programs_are_ready, granted_trees_run};
 pub use profile::is_first_tree;

@@ -1,31 +1,31 @@
 //! The line of a printed scalar.
 
-ghost use Rattle.std.specs.Prelude.{◌≡◌, ◌<◌, [], ◌∷◌, ◌++◌, length, slice_index_or, OnOk};
+ghost use Rattle.std.specs.Prelude.{◌≡◌, ◌<◌, [], ◌∷◌, ◌++◌, length, decimal, slice_index_or};
+ghost use Rattle.sip_files.specs.Sink.{Wrote};
 ghost use Rattle.sip_setting.specs.Seen.{setting_of};
 ghost use Rattle.first_profile.specs.Running.{line_of};
 
 use crate::machine::Machine;
 use itoa::Buffer;
+use sip_files::{Failed, Sink};
 use sip_setting::Granted;
-use std::alloc::AllocError;
 
 /// `execute print_scalar s`
-pub fn print_scalar(
+pub fn print_scalar<K: Sink>(
     granted: &Granted,
     machine: &Machine,
     scalar: u16,
-    out: &mut Vec<u8>,
-) -> Result<(), AllocError>
+    out: &mut K,
+) -> Result<(), Failed>
     requires scalar { scalar < length machine.now.scalars }
     requires name { scalar < length (setting_of granted.now).program.scalars }
-    ensures { OnOk result (out.new.items ≡ out.old.items ++ (line_of (setting_of granted.now) machine.now scalar ++ 10 ∷ [])) }
+    ensures { Wrote (K.written out.old) (K.written out.new) (K.faults out.old) (K.faults out.new) (K.kept out.old) (K.kept out.new)
+        (line_of (setting_of granted.now) machine.now scalar ++ 10 ∷ []) result }
 {
-    let mut buffer = Buffer::new();
-    out.extend_from_slice(name_of(granted, scalar))?;
-    out.push(b' ')?;
-    out.extend_from_slice(buffer.format(machine.scalar(scalar)).as_bytes())?;
-    out.push(b'\n')?;
-    Ok(())
+    match out.write(name_of(granted, scalar)) {
+        Ok(()) => write_number(machine.scalar(scalar), out),
+        Err(failed) => Err(failed),
+    }
 }
 
 // The name of a scalar.
@@ -34,4 +34,27 @@ fn name_of(granted: &Granted, scalar: u16) -> &[u8]
     ensures { result.now ≡ slice_index_or (setting_of granted.now).program.scalars scalar [] }
 {
     granted.program.scalars[scalar as usize].as_slice()
+}
+
+// A space, a number and the line's end.
+fn write_number<K: Sink>(number: u64, out: &mut K) -> Result<(), Failed>
+    ensures { Wrote (K.written out.old) (K.written out.new) (K.faults out.old) (K.faults out.new) (K.kept out.old) (K.kept out.new)
+        (32 ∷ (decimal number ++ 10 ∷ [])) result }
+{
+    match out.write(b" ") {
+        Ok(()) => write_digits(number, out),
+        Err(failed) => Err(failed),
+    }
+}
+
+// A number and the line's end.
+fn write_digits<K: Sink>(number: u64, out: &mut K) -> Result<(), Failed>
+    ensures { Wrote (K.written out.old) (K.written out.new) (K.faults out.old) (K.faults out.new) (K.kept out.old) (K.kept out.new)
+        (decimal number ++ 10 ∷ []) result }
+{
+    let mut buffer = Buffer::new();
+    match out.write(buffer.format(number).as_bytes()) {
+        Ok(()) => out.write(b"\n"),
+        Err(failed) => Err(failed),
+    }
 }
