@@ -8,12 +8,12 @@ mod NumbersFrom
 mod NumbersLemmas
 mod Places
 mod ProfileLemmas
-mod ReadyLemmas
+pub mod ReadyLemmas
 mod SegmentLemmas
 mod Sequential
 mod SoundLemmas
 mod StartLaws
 mod StartLemmas
 mod StatementsLemmas
-mod ThroughLemmas
+pub mod ThroughLemmas
 mod Worked
