@@ -10,13 +10,13 @@ mod Places
 mod Printed
 mod ProfileLemmas
 mod RanLemmas
-mod ReadyLemmas
+pub mod ReadyLemmas
 mod SegmentLemmas
 mod Sequential
 mod SoundLemmas
 mod StartLaws
 mod StartLemmas
 mod StatementsLemmas
-mod ThroughLemmas
+pub mod ThroughLemmas
 mod Worked
 mod WroteLemmas

@@ -1,20 +1,19 @@
 -- Inputs that fit their program, and inputs that don't.
-use Rattle.std.proofs.Common.{◌≡◌, ◌≢◌, ◌∙◌, ℕ, List, Option, Some, None, ap, map, refl, sym, inl, inr, subst}
-use Rattle.index_spaces.specs.Given.{Given, placed_by, spaces_by, numbers_given, blocks_given}
+use Rattle.std.proofs.Common.{◌≡◌, ◌≢◌, ◌∙◌, ℕ, List, Option, None, ap, map, refl, inl, inr, subst}
+use Rattle.index_spaces.specs.Given.{Given, placed_by, numbers_given, blocks_given}
 use Rattle.index_spaces.specs.Placed.{Placed}
 use Rattle.index_spaces.specs.Refusing as spaces
 use Rattle.index_spaces.specs.Refusing.{refusal}
 use Rattle.index_spaces.specs.Starting.{blocks_in}
 use Rattle.index_spaces.specs.declared.start.Start.{Start}
 use Rattle.index_spaces.specs.declared.fault.SpaceFault.{SpaceFault}
-use Rattle.index_spaces.specs.declared.fault.SpaceKind.{SpaceKind}
 use Rattle.index_spaces.specs.declared.fault.SpaceKind.TheVariants as kind
 use Rattle.input_text.specs.Texts as input
 use Rattle.input_text.specs.declared.fault.InputFault.{InputFault}
 use Rattle.input_text.specs.declared.fault.InputFault.TheVariants as bad
 use Rattle.sial_meaning.specs.Setting as meaning
 use Rattle.sial_syntax.specs.Resolved.{AreSpacesBy}
-use Rattle.sial_syntax.specs.Sides.{scalar_classes, array_sides}
+use Rattle.sial_syntax.specs.Sides.{scalar_classes}
 use Rattle.sial_syntax.specs.Spaces.{Spaces}
 use Rattle.sial_syntax.specs.Tree.{Tree, tree}
 use Rattle.sial_syntax.specs.declared.classes.ScalarClass.{ScalarClass}
@@ -25,9 +24,8 @@ use Rattle.sip_grant.specs.declared.refusal.Refusal.TheVariants.{NoProgram, NoTr
 use Rattle.sip_grant.specs.declared.ruled.Ruled.{Ruled}
 use Rattle.sip_input.specs.Given.{IsInput, constants_of}
 use Rattle.sip_input.specs.declared.input.Input.{Input}
-use Rattle.sip_setting.specs.Given.{given, setting_by}
-use Rattle.sip_setting.specs.Seen.{IsGrantedBy, setting_of}
-use Rattle.sip_setting.specs.declared.granted.Granted.{Granted}
+use Rattle.sip_setting.specs.Given.{given}
+use Rattle.sip_setting.specs.Seen.{IsGrantedBy}
 
 -- What `read_input` refuses with, unless memory ran out, is the text's fault.
 pub input_fault_is : (text : List ℕ) (fault : InputFault) → input.IsCause text fault → fault ≢ bad.OutOfMemory → IsBadInput text (BadInput fault)
@@ -77,8 +75,8 @@ same_setting :
     → numbers ≡ starts
     → blocks ≡ givens
     → ◌≡◌ {A = meaning.Setting}
-        (record { program = p; scalars = scalars; sides = sides; spaces = spaces; numbers = numbers; blocks = blocks })
-        (record { program = p; scalars = classes; sides = locals; spaces = others; numbers = starts; blocks = givens })
+    (record { program = p; scalars = scalars; sides = sides; spaces = spaces; numbers = numbers; blocks = blocks })
+    (record { program = p; scalars = classes; sides = locals; spaces = others; numbers = starts; blocks = givens })
 same_setting p of_scalars of_sides of_spaces of_numbers of_blocks = cc
 
 -- What `resolve` gives a program that keeps the rules is granted.

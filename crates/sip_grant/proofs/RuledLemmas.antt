@@ -1,5 +1,5 @@
 -- Programs that break a rule.
-use Rattle.std.proofs.Common.{◌≡◌, ◌≢◌, ℕ, List, Some, None, refl}
+use Rattle.std.proofs.Common.{◌≡◌, ◌≢◌, ℕ, List, None, refl}
 use Rattle.scalar_discipline.specs.Discipline as sides
 use Rattle.scalar_discipline.specs.declared.fault.RuleFault.{RuleFault}
 use Rattle.scalar_discipline.specs.declared.fault.RuleFault.TheVariants as rule
@@ -8,7 +8,6 @@ use Rattle.shape_check.specs.declared.fault.ShapeFault.{ShapeFault}
 use Rattle.shape_check.specs.declared.fault.ShapeFault.TheVariants as shape
 use Rattle.sial_parser.specs.Words.{IsTextOf}
 use Rattle.sial_syntax.specs.Shapes.{shape_fault}
-use Rattle.sial_syntax.specs.SideRules.{side_fault}
 use Rattle.sial_syntax.specs.Tree.{Tree}
 use Rattle.sip_grant.specs.Refusals.{BlamesProgram}
 use Rattle.sip_grant.specs.Ruled.{BlamesTree}

@@ -1,4 +1,3 @@
-use Rattle.std.proofs.Common.{ℕ}
 use Rattle.sial_syntax.specs.Tree.{tree}
 use Rattle.sip_grant.proofs.AnswerLemmas.{given, refused}
 use Rattle.sip_grant.proofs.FittedLemmas.{blames_misfit}
