@@ -1,5 +1,5 @@
 -- What a run of a granted program says of its texts.
-use Rattle.std.proofs.Common.{◌≡◌, ℕ, List, Option, subst, sym}
+use Rattle.std.proofs.Common.{ℕ, List, Option, subst}
 use Rattle.first_profile.specs.FirstTree.{IsFirstTree}
 use Rattle.sial_meaning.specs.Setting.{Setting}
 use Rattle.sial_syntax.specs.Tree.{tree}
@@ -8,7 +8,6 @@ use Rattle.sip_files.specs.Sink.{Gains, GainsPart}
 use Rattle.sip_grant.specs.Granting.{IsGrantedFor, AreTextsOf}
 use Rattle.sip_grant.specs.Names.{Names}
 use Rattle.sip_grant.specs.Refusals.{ForTexts}
-use Rattle.sip_setting.specs.Given.{setting_by}
 use Rattle.sip_setting.specs.Printing.{printed_text}
 use Rattle.sip_setting.specs.Seen.{setting_of}
 use Rattle.sip_setting.specs.declared.granted.Granted.{Granted}

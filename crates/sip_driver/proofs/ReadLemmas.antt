@@ -1,12 +1,12 @@
 -- Files that were read aren't ones that can't be.
-use Rattle.std.proofs.Common.{◌≡◌, ◌∙◌, ℕ, ◌<◌, ◌≤◌, ◌⊎◌, List, [], ◌∷◌, Option, Some, None, IsSomeAnd, Result, Ok, String, length, subst, sym, inl, inr, arith, refl}
+use Rattle.std.proofs.Common.{◌≡◌, ◌∙◌, ℕ, ◌<◌, ◌≤◌, ◌⊎◌, List, Option, Some, None, IsSomeAnd, Result, Ok, String, length, subst, sym, inl, inr, arith}
 use Rattle.std.specs.declared.alloc.Global.{Global}
 use Rattle.sip_files.specs.Files.{Folder}
 use Rattle.sip_files.specs.Loading.{Wanted, Tells, Loading}
 use Rattle.sip_files.specs.declared.call.Call.{Call}
 use Rattle.sip_files.specs.declared.fault.LoadFault.{LoadFault}
-use Rattle.sip_grant.specs.Loads.{IsUnreadable, AreRead}
-use Rattle.sip_grant.specs.Names.{Names, program_of, input_of, files_of}
+use Rattle.sip_grant.specs.Loads.{IsUnreadable}
+use Rattle.sip_grant.specs.Names.{Names, program_of, input_of}
 use Rattle.sip_grant.specs.Refusals.{ForProgram, ForTexts}
 use Rattle.sip_driver.specs.Asked.{asked}
 use Rattle.sip_driver.specs.Headline.{RefusesUnreadable}

@@ -1,5 +1,5 @@
 -- What a refusal says of the status that it gives.
-use Rattle.std.proofs.Common.{◌≡◌, ◌≢◌, ◌∙◌, ℕ, ◌≤◌, ◌⊎◌, List, Option, Some, None, Result, String, subst, sym, inl, inr, arith, refl}
+use Rattle.std.proofs.Common.{◌≡◌, ◌≢◌, ℕ, ◌≤◌, ◌⊎◌, List, Option, Some, Result, String, subst, sym, inl, inr, arith}
 use Rattle.std.specs.declared.alloc.Global.{Global}
 use Rattle.sip_files.specs.Files.{Folder}
 use Rattle.sip_files.specs.Loading.{LoadOf, Loading}
@@ -7,9 +7,7 @@ use Rattle.sip_files.specs.declared.call.Call.{Call}
 use Rattle.sip_files.specs.declared.fault.LoadFault.{LoadFault}
 use Rattle.sip_grant.specs.Granting.{HasBadInput, Misfits}
 use Rattle.sip_grant.specs.Names.{Names}
-use Rattle.sip_grant.specs.Programs.{BreaksShape, BreaksSides}
 use Rattle.sip_grant.specs.Refusals.{Refuses}
-use Rattle.sip_grant.specs.Syntax.{IsFaultOf}
 use Rattle.sip_grant.specs.declared.refusal.Refusal.{Refusal}
 use Rattle.sip_grant.specs.declared.refusal.Refusal.TheVariants.{NoProgram, NoTree, Shape, Sides, NoInput, BadInput, Unfit, OutOfMemory}
 use Rattle.sip_driver.specs.Asked.{asked, ForNames}
@@ -145,8 +143,8 @@ module _
       → says (line_on names refusal)
       → status ≡ status_of refusal
       → RefusesUnreadable status words (told old)
-          (Unparsed words (Loading gives told faults overlong) old new says)
-          (Misshapen words (Loading gives told faults overlong) old new says ⊎ Missided words (Loading gives told faults overlong) old new says)
+      (Unparsed words (Loading gives told faults overlong) old new says)
+      (Misshapen words (Loading gives told faults overlong) old new says ⊎ Missided words (Loading gives told faults overlong) old new says)
   unreadable status NoProgram is refuses said gives_it = for_named gives told faults overlong old new names words status _ _ is (λ u. inl gives_it) (λ u. inl gives_it)
   unreadable status (NoTree fault) is refuses said gives_it =
       for_named gives told faults overlong old new names words status _ _ is

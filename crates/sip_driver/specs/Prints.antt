@@ -1,5 +1,5 @@
 -- What the output gains of the printed lines of a program that runs today.
-use Rattle.std.specs.Prelude.{◌≡◌, ℕ, ◌⊎◌, List, Option}
+use Rattle.std.specs.Prelude.{ℕ, List, Option}
 use Rattle.first_profile.specs.FirstTree.{IsFirstTree}
 use Rattle.sial_syntax.specs.Tree.{Tree}
 use Rattle.sip_files.specs.Sink.{Gains, GainsPart}

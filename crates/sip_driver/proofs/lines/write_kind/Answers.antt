@@ -1,8 +1,6 @@
-use Rattle.std.specs.Prelude.{codes, decimal}
+use Rattle.std.specs.Prelude.{codes}
 use Rattle.std.proofs.Common.{◌∷◌, [], ◌++◌, Err, refl}
 use Rattle.sip_files.proofs.SinkLemmas.{then_wrote, stopped}
-use Rattle.sip_driver.specs.Kinds.{space_kind_of}
-use Rattle.sip_driver.specs.Seen.{told_of}
 use Rattle.sip_driver.proofs.lines.write_kind.Goals as goal
 
 pub returns-in-Ok : goal.returns-in-Ok

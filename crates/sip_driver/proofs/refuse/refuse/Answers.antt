@@ -1,4 +1,3 @@
-use Rattle.std.proofs.Common.{◌≡◌, ◌∙◌}
 use Rattle.std.specs.Prelude.{codes}
 use Rattle.sip_grant.specs.Names.{named}
 use Rattle.sip_grant.specs.declared.refusal.Refusal.TheVariants.{NoTree, Shape, Sides, BadInput, Unfit, OutOfMemory}
