@@ -1,5 +1,5 @@
 -- Rounds say which procedures reach another, and so which call leads back first.
-use Rattle.std.proofs.Common.{◌≡◌, ℕ, zero, suc, ◌+◌, ◌<◌, ◌≤◌, List, [], ◌∷◌, ◌++◌, map, filter, flat_map, length, slice_index_or, Bool, true, false, nat_lt, cond, ◌==◌, ◌||◌, ◌⊎◌, inl, inr, Some, refl, sym, ap, ◌∙◌, subst, arith}
+use Rattle.std.proofs.Common.{◌≡◌, ℕ, zero, suc, ◌+◌, ◌-◌, ◌<◌, ◌≤◌, List, [], ◌∷◌, ◌++◌, map, filter, flat_map, length, slice_index_or, Bool, true, false, nat_lt, cond, ◌==◌, ◌||◌, ◌⊎◌, inl, inr, Some, refl, sym, ap, ◌∙◌, subst, arith}
 use Rattle.std.specs.List.{list_any, enumerate_from}
 use Rattle.std.proofs.lemmas.Bool.{ltb-true, ltb-false}
 use Rattle.std.proofs.lemmas.Bool.Decides.{nat_tests}
@@ -13,7 +13,7 @@ use Rattle.sial_syntax.specs.Visits.{Visit, body_visits}
 use Rattle.sial_syntax.proofs.CallLemmas.{no_procedure}
 use Rattle.scalar_discipline.specs.declared.call.Call.{Call}
 use Rattle.scalar_discipline.specs.Calls.{calls_within}
-use Rattle.scalar_discipline.specs.Rounds.{leads_on, reach_after, lines_back, lesser, first_back}
+use Rattle.scalar_discipline.specs.Rounds.{leads_on, reach_next, reach_after, lines_back, lesser, first_back}
 use Rattle.scalar_discipline.proofs.CallListLemmas.{calls_at, calls-are, called-within, calls-at-place}
 use Rattle.scalar_discipline.proofs.DepthRoundLemmas.{calls-none}
 use Rattle.scalar_discipline.proofs.LineLemmas.{lesser_three}
@@ -136,3 +136,16 @@ back-are p first (q ∷ qs) long at =
 
 pub recursion-is : (p : Tree) → first_back (map calls_within p.procedures) (enumerate_from 0 (map calls_within p.procedures)) ≡ recursion p
 recursion-is p = back-are p 0 p.procedures (omega arith) (λ i within. let same : 0 + i ≡ i = omega arith in ap (λ n. slice_index_or p.procedures n no_procedure) same)
+
+-- once a round finds no more, no later one does
+reach-stays : (calls : List (List Call)) (to k j : ℕ) → reach_next calls to (reach_after calls to k) ≡ reach_after calls to k → reach_after calls to (k + j) ≡ reach_after calls to k
+reach-stays calls to k zero fixed = let none : k + 0 ≡ k = omega arith in ap (reach_after calls to) none
+reach-stays calls to k (suc j) fixed =
+    let more : k + suc j ≡ suc (k + j) = omega arith in
+    ap (reach_after calls to) more ∙ (ap (reach_next calls to) (reach-stays calls to k j fixed) ∙ fixed)
+
+pub settled-reach : (calls : List (List Call)) (to turn n : ℕ) (reach : List Bool) → reach ≡ reach_after calls to turn → reach_next calls to reach ≡ reach → turn ≤ n → reach ≡ reach_after calls to n
+settled-reach calls to turn n reach is fixed few =
+    let fixed-after : reach_next calls to (reach_after calls to turn) ≡ reach_after calls to turn = subst (λ (r : List Bool). reach_next calls to r ≡ r) is fixed in
+    let sum : turn + (n - turn) ≡ n = omega (arith, few) in
+    is ∙ (sym (reach-stays calls to turn (n - turn) fixed-after) ∙ ap (reach_after calls to) sum)

@@ -1,6 +1,6 @@
 //! Which procedures reach another by calls, and the first call that leads back.
 
-ghost use Rattle.std.specs.Prelude.{◌≡◌, IfOk, false, length, slice_index_or};
+ghost use Rattle.std.specs.Prelude.{◌≡◌, IfOk, IsTrue, false, length, slice_index_or};
 ghost use Rattle.std.specs.List.{enumerate_from};
 ghost use Rattle.sial_syntax.specs.SideRules.{least};
 ghost use Rattle.scalar_discipline.specs.Calls.{lists};
@@ -22,15 +22,26 @@ pub fn first_back(alloc: Global, calls: &[Vec<Call>]) -> Result<Option<u32>, All
     Ok(first)
 }
 
-// Which procedures reach another.
+// Which procedures reach another: rounds of one call more each, until one finds no more.
 fn reaching(alloc: Global, calls: &[Vec<Call>], to: usize) -> Result<Vec<bool>, AllocError>
     ensures { IfOk result (λ reach. reach.items ≡ spec.reach_after (lists calls.now) to (length calls.now)) }
 {
     let mut reach = only(alloc, calls, to)?;
     for turn in 0..calls.len() {
-        reach = next(alloc, calls, to, reach.as_slice())?;
+        let further = next(alloc, calls, to, reach.as_slice())?;
+        if same(further.as_slice(), reach.as_slice()) {
+            return Ok(reach);
+        }
+        reach = further;
     }
     Ok(reach)
+}
+
+// Whether two lists are the same.
+fn same(reach: &[bool], other: &[bool]) -> bool
+    ensures { IsTrue result → reach.now ≡ other.now }
+{
+    reach == other
 }
 
 // Which procedures are another.

@@ -5,6 +5,7 @@ mod agreeing;
 mod blocks;
 mod broken;
 mod check;
+mod conditions;
 mod declarations;
 mod declared;
 mod fault;
