@@ -1,24 +1,31 @@
 -- Trees that are found to be of the first profile.
-use Rattle.std.proofs.Common.{◌≡◌, ℕ, zero, suc, ◌<◌, List, [], ◌∷◌, length, Bool, true, ◌==◌, ◌&&◌, nat_lt, nat_le, Option, Some, None, slice_index_or, eqb-true, refl, ap, ◌∙◌, sym, subst, arith}
+use Rattle.std.proofs.Common.{◌≡◌, ℕ, zero, suc, ◌<◌, List, [], ◌∷◌, length, map, Bool, true, ◌&&◌, nat_lt, Option, Some, None, slice_index_or, eqb-true, refl, ap, ◌∙◌, sym, subst, arith}
 use Rattle.std.specs.List.{list_all, All}
 use Rattle.std.specs.Prelude.{IsTrue, ◌↔◌}
-use Rattle.std.proofs.lemmas.Bool.{leb-true, le-leb, ltb-true, lt-ltb, eq-eqb}
+use Rattle.std.proofs.lemmas.Bool.{ltb-true, lt-ltb, eq-eqb}
 use Rattle.std.proofs.lemmas.List.Elements.{All-nil, All-cons, All-head, All-tail}
+use Rattle.std.proofs.lemmas.List.Folds.{list_all-map}
 use Rattle.sial_syntax.specs.declared.array.ArrayDecl.{ArrayDecl}
 use Rattle.sial_syntax.specs.declared.array.ArrayKind.{ArrayKind}
 use Rattle.sial_syntax.specs.declared.array.ArrayKind.TheVariants.{Static}
+use Rattle.sial_syntax.specs.declared.index.Bound.{Bound}
+use Rattle.sial_syntax.specs.declared.index.IndexDecl.{IndexDecl}
+use Rattle.sial_syntax.specs.declared.index.Kind.TheVariants.{Ao}
+use Rattle.sial_syntax.specs.declared.index.Range.{Range}
+use Rattle.sial_syntax.specs.declared.index.Range.TheVariants.{Segments}
 use Rattle.sial_syntax.specs.declared.operand.Bin.TheVariants.{Times}
 use Rattle.sial_syntax.specs.declared.operand.BlockRef.{BlockRef}
 use Rattle.sial_syntax.specs.declared.operand.Op.TheVariants.{Set, Add}
 use Rattle.sial_syntax.specs.declared.operand.Operand.TheVariants as operand
 use Rattle.sial_syntax.specs.declared.operand.Right.TheVariants.{One, Two}
 use Rattle.sial_syntax.specs.declared.operand.Target.TheVariants as target
+use Rattle.sial_syntax.specs.declared.program.Proc.{Proc}
 use Rattle.sial_syntax.specs.declared.statement.Stmt.{Stmt}
-use Rattle.sial_syntax.specs.Tree.{Tree, Procedure, Block, End, Then, Plain, Do, Assign, PrintScalar, block, plain_form}
+use Rattle.sial_syntax.specs.Tree.{Tree, Procedure, Block, End, Then, Plain, Do, Assign, PrintScalar, block, plain_form, procedure}
 use Rattle.sial_syntax.proofs.TreeLemmas.{seen_block}
 use Rattle.first_profile.proofs.SoundLemmas.{first_of_two, last_of_two, both}
-use Rattle.first_profile.specs.FirstTree.{IsArray, IsBlock, IsBody, IsFirstTree, IsForm, IsScalar, OneBelow, dims_in}
-use Rattle.first_profile.specs.Looking.{are_forms, are_simple, declares_few, is_array, is_block, is_first_tree, is_form, is_one_below, is_only, is_scalar, is_simple, is_static}
+use Rattle.first_profile.specs.FirstTree.{IsAoIndex, IsArray, IsBlock, IsBody, IsFirstTree, IsForm, IsProcedure, IsScalar, OneBelow, dims_in}
+use Rattle.first_profile.specs.Looking.{are_forms, are_simple, is_ao, is_ao_index, is_array, is_block, is_first_tree, is_form, is_one_below, is_only, is_procedure, is_scalar, is_simple, is_static}
 
 -- One number below another.
 below_is : (most : ℕ) (xs : List ℕ) → is_one_below most xs ≡ true → OneBelow most xs
@@ -42,15 +49,22 @@ array_is n array e =
 array_again : (n : ℕ) (array : ArrayDecl) → IsArray n array → is_array n array ≡ true
 array_again n array h = both (is_static array.kind) (is_one_below n array.dims) (ap is_static h.0) (below_again n array.dims h.1)
 
-arrays_are : (n : ℕ) (arrays : List ArrayDecl) → list_all (is_array n) arrays ≡ true → All (IsArray n) arrays
-arrays_are n [] e = All-nil (IsArray n)
-arrays_are n (a ∷ others) e =
-    All-cons (IsArray n) a others (array_is n a (first_of_two (is_array n a) (list_all (is_array n) others) e)) (arrays_are n others (last_of_two (is_array n a) (list_all (is_array n) others) e))
+-- Parts that are all found to be of the profile are.
+all_are : {X : Type 0} (test : X → Bool) (P : X → Type 0) → ((x : X) → test x ≡ true → P x) → (xs : List X) → list_all test xs ≡ true → All P xs
+all_are test P is [] e = All-nil P
+all_are test P is (x ∷ xs) e =
+    All-cons P x xs (is x (first_of_two (test x) (list_all test xs) e)) (all_are test P is xs (last_of_two (test x) (list_all test xs) e))
 
-arrays_again : (n : ℕ) (arrays : List ArrayDecl) → All (IsArray n) arrays → list_all (is_array n) arrays ≡ true
-arrays_again n [] h = refl
-arrays_again n (a ∷ others) h =
-    both (is_array n a) (list_all (is_array n) others) (array_again n a (All-head (IsArray n) a others h)) (arrays_again n others (All-tail (IsArray n) a others h))
+all_again : {X : Type 0} (test : X → Bool) (P : X → Type 0) → ((x : X) → P x → test x ≡ true) → (xs : List X) → All P xs → list_all test xs ≡ true
+all_again test P again [] h = refl
+all_again test P again (x ∷ xs) h = both (test x) (list_all test xs) (again x (All-head P x xs h)) (all_again test P again xs (All-tail P x xs h))
+
+ao_is : (range : Range) → is_ao range ≡ true → (lo : Bound) × (hi : Bound) × (range ≡ Segments Ao lo hi)
+ao_is (Segments Ao lo hi) e = (lo, hi, refl)
+ao_is range e = absurd cc
+
+ao_again : (index : IndexDecl) → IsAoIndex index → is_ao_index index ≡ true
+ao_again index h = ap is_ao h.2
 
 -- An index that is the only one.
 only_is : (xs : List ℕ) (index : ℕ) → is_only xs index ≡ true → xs ≡ index ∷ []
@@ -154,34 +168,26 @@ forms_again : (p : Tree) (body : Block) → IsBody p None body → are_forms p b
 forms_again p End h = refl
 forms_again p (Then line form rest) h = both (is_form p form) (are_forms p rest) (form_again p form h.0) (forms_again p rest h.1)
 
-none_is : (procedures : List Procedure) → (length procedures == 0) ≡ true → procedures ≡ []
-none_is [] e = refl
-none_is (x ∷ xs) e = absurd (omega (arith, eqb-true (length (x ∷ xs)) 0 e))
-
 -- A tree that is found to be of the first profile is.
 pub tree_is : (p : Tree) → is_first_tree p ≡ true → IsFirstTree p
 tree_is p e =
-    let few : declares_few p ≡ true = first_of_two (declares_few p) (list_all (is_array (length p.indices)) p.arrays && are_forms p p.body) e in
-    let parts : (list_all (is_array (length p.indices)) p.arrays && are_forms p p.body) ≡ true = last_of_two (declares_few p) (list_all (is_array (length p.indices)) p.arrays && are_forms p p.body) e in
-    let beside : (nat_le (length p.arrays) 8 && (nat_le (length p.scalars) 8 && (length p.procedures == 0))) ≡ true = last_of_two (nat_le (length p.indices) 8) _ few in
-    let others : (nat_le (length p.scalars) 8 && (length p.procedures == 0)) ≡ true = last_of_two (nat_le (length p.arrays) 8) _ beside in
+    let beside : (list_all (is_array (length p.indices)) p.arrays && (list_all (is_procedure p) p.procedures && are_forms p p.body)) ≡ true =
+    last_of_two (list_all is_ao_index p.indices) _ e in
+    let statements : (list_all (is_procedure p) p.procedures && are_forms p p.body) ≡ true = last_of_two (list_all (is_array (length p.indices)) p.arrays) _ beside in
     record {
-      few_indices = leb-true (length p.indices) 8 (first_of_two (nat_le (length p.indices) 8) _ few);
-      few_arrays = leb-true (length p.arrays) 8 (first_of_two (nat_le (length p.arrays) 8) _ beside);
-      few_scalars = leb-true (length p.scalars) 8 (first_of_two (nat_le (length p.scalars) 8) _ others);
-      no_procedures = none_is p.procedures (last_of_two (nat_le (length p.scalars) 8) _ others);
-      arrays = arrays_are (length p.indices) p.arrays (first_of_two (list_all (is_array (length p.indices)) p.arrays) (are_forms p p.body) parts);
-      body = forms_are p p.body (last_of_two (list_all (is_array (length p.indices)) p.arrays) (are_forms p p.body) parts);
+      indices = all_are is_ao_index IsAoIndex (λ (i : IndexDecl). ao_is i.range) p.indices (first_of_two (list_all is_ao_index p.indices) _ e);
+      arrays = all_are (is_array (length p.indices)) (IsArray (length p.indices)) (array_is (length p.indices)) p.arrays (first_of_two (list_all (is_array (length p.indices)) p.arrays) _ beside);
+      procedures = all_are (is_procedure p) (IsProcedure p) (λ (q : Procedure). forms_are p q.body) p.procedures (first_of_two (list_all (is_procedure p) p.procedures) _ statements);
+      body = forms_are p p.body (last_of_two (list_all (is_procedure p) p.procedures) (are_forms p p.body) statements);
     }
 
 -- One that is is found to be.
 pub tree_again : (p : Tree) → IsFirstTree p → is_first_tree p ≡ true
 tree_again p h =
-    both (declares_few p) (list_all (is_array (length p.indices)) p.arrays && are_forms p p.body)
-    (both (nat_le (length p.indices) 8) _ (le-leb (length p.indices) 8 h.few_indices)
-    (both (nat_le (length p.arrays) 8) _ (le-leb (length p.arrays) 8 h.few_arrays)
-    (both (nat_le (length p.scalars) 8) (length p.procedures == 0) (le-leb (length p.scalars) 8 h.few_scalars) (ap (λ (l : List Procedure). length l == 0) h.no_procedures))))
-    (both (list_all (is_array (length p.indices)) p.arrays) (are_forms p p.body) (arrays_again (length p.indices) p.arrays h.arrays) (forms_again p p.body h.body))
+    both (list_all is_ao_index p.indices) _ (all_again is_ao_index IsAoIndex ao_again p.indices h.indices)
+    (both (list_all (is_array (length p.indices)) p.arrays) _ (all_again (is_array (length p.indices)) (IsArray (length p.indices)) (array_again (length p.indices)) p.arrays h.arrays)
+    (both (list_all (is_procedure p) p.procedures) (are_forms p p.body) (all_again (is_procedure p) (IsProcedure p) (λ (q : Procedure). forms_again p q.body) p.procedures h.procedures)
+    (forms_again p p.body h.body)))
 
 -- So the test tells.
 pub found : (p : Tree) (test : Bool) → test ≡ is_first_tree p → IsTrue test ↔ IsFirstTree p
@@ -196,3 +202,7 @@ simple_listed p loop (s ∷ ss) = ap (are_simple p loop) (seen_block s ss) ∙ a
 pub forms_listed : (p : Tree) (stmts : List Stmt) → are_forms p (block stmts) ≡ list_all (λ (s : Stmt). is_form p (plain_form s.form)) stmts
 forms_listed p [] = refl
 forms_listed p (s ∷ ss) = ap (are_forms p) (seen_block s ss) ∙ ap (λ t. is_form p (plain_form s.form) && t) (forms_listed p ss)
+
+-- The procedures, looked through one after another.
+pub procedures_listed : (p : Tree) (procs : List Proc) → list_all (is_procedure p) (map procedure procs) ≡ list_all (λ (q : Proc). is_procedure p (procedure q)) procs
+procedures_listed p procs = list_all-map (is_procedure p) procedure procs

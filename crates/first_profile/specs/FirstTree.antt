@@ -1,14 +1,22 @@
 -- Trees of the first profile: the form that a program has for the small evaluator.
-use Rattle.std.specs.Prelude.{◌≡◌, ℕ, ◌<◌, ◌≤◌, List, [], ◌∷◌, length, Option, Some, None, slice_index_or, All}
+use Rattle.std.specs.Prelude.{◌≡◌, ℕ, ◌<◌, List, [], ◌∷◌, length, Option, Some, None, slice_index_or, All}
 use Rattle.sial_syntax.specs.declared.array.ArrayDecl.{ArrayDecl}
 use Rattle.sial_syntax.specs.declared.array.ArrayKind.TheVariants.{Static}
+use Rattle.sial_syntax.specs.declared.index.Bound.{Bound}
+use Rattle.sial_syntax.specs.declared.index.IndexDecl.{IndexDecl}
+use Rattle.sial_syntax.specs.declared.index.Kind.TheVariants.{Ao}
+use Rattle.sial_syntax.specs.declared.index.Range.TheVariants.{Segments}
 use Rattle.sial_syntax.specs.declared.operand.Bin.TheVariants.{Times}
 use Rattle.sial_syntax.specs.declared.operand.BlockRef.{BlockRef}
 use Rattle.sial_syntax.specs.declared.operand.Op.TheVariants.{Set, Add}
 use Rattle.sial_syntax.specs.declared.operand.Operand.TheVariants as operand
 use Rattle.sial_syntax.specs.declared.operand.Right.TheVariants.{One, Two}
 use Rattle.sial_syntax.specs.declared.operand.Target.TheVariants as target
-use Rattle.sial_syntax.specs.Tree.{Tree, Block, End, Then, Plain, Do, Assign, PrintScalar}
+use Rattle.sial_syntax.specs.Tree.{Tree, Procedure, Block, End, Then, Plain, Do, Assign, PrintScalar}
+
+-- an index of the first profile: an `aoindex`, whatever its bounds
+abbrev pub IsAoIndex : IndexDecl → Type 0
+IsAoIndex index = (lo : Bound) × (hi : Bound) × (index.range ≡ Segments Ao lo hi)
 
 -- one number, below this one
 abbrev pub OneBelow : ℕ → List ℕ → Type 0
@@ -52,12 +60,14 @@ abbrev mutual
   IsBody p loop End = Unit {0}
   IsBody p loop (Then line form rest) = IsForm p loop form × IsBody p loop rest
 
--- a tree of the first profile: at most eight indices, arrays and scalars each, no procedures, arrays that are static and have one
--- index, and statements of the profile's forms
+-- a procedure of the first profile; nothing calls it, since a call is none of the profile's statements
+abbrev pub IsProcedure : Tree → Procedure → Type 0
+IsProcedure p q = IsBody p None q.body
+
+-- a tree of the first profile: each index is an `aoindex`, each array is static and has one index, and the statements of the body and
+-- of each procedure are of the profile's forms
 pub record IsFirstTree (p : Tree) : Type 0 where
-  pub few_indices : length p.indices ≤ 8
-  pub few_arrays : length p.arrays ≤ 8
-  pub few_scalars : length p.scalars ≤ 8
-  pub no_procedures : p.procedures ≡ []
+  pub indices : All IsAoIndex p.indices
   pub arrays : All (IsArray (length p.indices)) p.arrays
+  pub procedures : All (IsProcedure p) p.procedures
   pub body : IsBody p None p.body

@@ -1,10 +1,14 @@
 -- How a tree is looked through for the first profile: step by step, each step exact.
-use Rattle.std.specs.Prelude.{ℕ, List, [], ◌∷◌, length, Bool, true, false, ◌==◌, ◌&&◌, nat_lt, nat_le, Option, Some, None}
+use Rattle.std.specs.Prelude.{ℕ, List, [], ◌∷◌, length, Bool, true, false, ◌==◌, ◌&&◌, nat_lt, Option, Some, None}
 use Rattle.std.specs.List.{list_all}
-use Rattle.sial_syntax.specs.Tree.{Tree, Block, End, Then, Plain, Do, Assign, PrintScalar}
+use Rattle.sial_syntax.specs.Tree.{Tree, Procedure, Block, End, Then, Plain, Do, Assign, PrintScalar}
 use Rattle.sial_syntax.specs.declared.array.ArrayDecl.{ArrayDecl}
 use Rattle.sial_syntax.specs.declared.array.ArrayKind.{ArrayKind}
 use Rattle.sial_syntax.specs.declared.array.ArrayKind.TheVariants.{Static}
+use Rattle.sial_syntax.specs.declared.index.IndexDecl.{IndexDecl}
+use Rattle.sial_syntax.specs.declared.index.Kind.TheVariants.{Ao}
+use Rattle.sial_syntax.specs.declared.index.Range.{Range}
+use Rattle.sial_syntax.specs.declared.index.Range.TheVariants.{Segments}
 use Rattle.sial_syntax.specs.declared.operand.Bin.TheVariants.{Times}
 use Rattle.sial_syntax.specs.declared.operand.BlockRef.{BlockRef}
 use Rattle.sial_syntax.specs.declared.operand.Op.{Op}
@@ -15,6 +19,15 @@ use Rattle.sial_syntax.specs.declared.operand.Right.TheVariants.{One, Two}
 use Rattle.sial_syntax.specs.declared.operand.Target.{Target}
 use Rattle.sial_syntax.specs.declared.operand.Target.TheVariants as target
 use Rattle.first_profile.specs.FirstTree.{dims_in}
+
+-- whether a range is of ao segments
+abbrev pub is_ao : Range → Bool
+is_ao (Segments Ao lo hi) = true
+is_ao _ = false
+
+-- whether an index is an `aoindex`
+abbrev pub is_ao_index : IndexDecl → Bool
+is_ao_index index = is_ao index.range
 
 -- whether there is one number, below this one
 abbrev pub is_one_below : ℕ → List ℕ → Bool
@@ -84,10 +97,13 @@ abbrev pub are_forms : Tree → Block → Bool
 are_forms p End = true
 are_forms p (Then line form rest) = is_form p form && are_forms p rest
 
--- whether at most so many of each thing are declared, and no procedure
-abbrev pub declares_few : Tree → Bool
-declares_few p = nat_le (length p.indices) 8 && (nat_le (length p.arrays) 8 && (nat_le (length p.scalars) 8 && (length p.procedures == 0)))
+-- whether all statements of a procedure are so
+abbrev pub is_procedure : Tree → Procedure → Bool
+is_procedure p q = are_forms p q.body
 
 -- whether a tree is of the first profile
 abbrev pub is_first_tree : Tree → Bool
-is_first_tree p = declares_few p && (list_all (is_array (length p.indices)) p.arrays && are_forms p p.body)
+is_first_tree p =
+    list_all is_ao_index p.indices
+    && (list_all (is_array (length p.indices)) p.arrays
+    && (list_all (is_procedure p) p.procedures && are_forms p p.body))

@@ -8,7 +8,8 @@ use Rattle.first_profile.specs.declared.fault.RunFault.{RunFault}
 use Rattle.first_profile.specs.declared.fault.RunFault.TheVariants.{NotWritten}
 
 -- a text went out whole, or a first part of it, where a write failed and was counted, or memory ran out
-pub record Ran (old new : Option (List ℕ)) (before now : ℕ) (was is : Kept) (text : List ℕ) (result : Result (Unit {0}) RunFault) : Type 0 where
+pub record Ran (old new : Option (List ℕ)) (before now : ℕ) (was is : Kept) (text : List ℕ)
+    (result : Result (Unit {0}) RunFault) : Type 0 where
   pub ok : OnOk result (Gains old new text)
   pub err : OnErr result (GainsPart old new text)
   pub later : before ≤ now

@@ -2,16 +2,16 @@
 
 ghost use Rattle.std.specs.Prelude.{◌≡◌, ◌↔◌, length, IsTrue};
 ghost use Rattle.std.specs.List.{list_all};
-ghost use Rattle.sial_syntax.specs.Tree.{tree, block, plain_form, Do};
+ghost use Rattle.sial_syntax.specs.Tree.{tree, procedure, block, plain_form, Do};
+ghost use Rattle.sial_syntax.specs.declared.program.Proc.{Proc};
 ghost use Rattle.sial_syntax.specs.declared.statement.Stmt.{Stmt};
 ghost use Rattle.first_profile.specs.FirstTree.{dims_in, IsFirstTree};
 ghost use Rattle.first_profile.specs.Looking as spec;
 
 use sial_syntax::{
-    ArrayDecl, ArrayKind, Bin, BlockRef, Form, Op, Operand, Program, Right, Stmt, Target,
+    ArrayDecl, ArrayKind, Bin, BlockRef, Form, IndexDecl, Kind, Op, Operand, Proc, Program, Range,
+    Right, Stmt, Target,
 };
-
-const MOST_DECLARED: usize = 8;
 
 /// Whether a program's tree is of the first profile.
 pub fn is_first_tree(program: &Program) -> bool
@@ -21,23 +21,31 @@ pub fn is_first_tree(program: &Program) -> bool
 }
 
 // The same, part by part.
-#[tactic(auto, using(crate::proofs::ProfileLemmas::forms_listed))]
+#[tactic(auto, using(crate::proofs::ProfileLemmas::procedures_listed))]
 fn is_of_profile(program: &Program) -> bool
     ensures { result ≡ spec.is_first_tree (tree program.now) }
 {
-    declares_few(program)
+    are_indices(program.indices.as_slice())
         && are_arrays(program.indices.len(), program.arrays.as_slice())
-        && are_forms(program, program.body.as_slice())
+        && are_procedures(program, program.procs.as_slice())
+        && is_body(program, program.body.as_slice())
 }
 
-// Whether at most so many of each thing are declared, and no procedure.
-fn declares_few(program: &Program) -> bool
-    ensures { result ≡ spec.declares_few (tree program.now) }
+// Whether all indices are aoindices.
+fn are_indices(indices: &[IndexDecl]) -> bool
+    ensures { result ≡ list_all spec.is_ao_index indices.now }
 {
-    program.indices.len() <= MOST_DECLARED
-        && program.arrays.len() <= MOST_DECLARED
-        && program.scalars.len() <= MOST_DECLARED
-        && program.procs.is_empty()
+    indices.iter().all(|i| is_ao(&i.range))
+}
+
+// Whether a range is of ao segments.
+fn is_ao(range: &Range) -> bool
+    ensures { result ≡ spec.is_ao range.now }
+{
+    match range {
+        Range::Segments { kind, .. } => matches!(kind, Kind::Ao),
+        Range::Sub { .. } => false,
+    }
 }
 
 // Whether all arrays are static and have one index.
@@ -69,6 +77,23 @@ fn is_one_below(most: usize, numbers: &[u16]) -> bool
         [only] => (*only as usize) < most,
         _ => false,
     }
+}
+
+// Whether all procedures are of the profile.
+fn are_procedures(program: &Program, procedures: &[Proc]) -> bool
+    ensures { result ≡ list_all (λ (q : Proc). spec.is_procedure (tree program.now) (procedure q)) procedures.now }
+{
+    procedures
+        .iter()
+        .all(|q| is_body(program, q.body.as_slice()))
+}
+
+// Whether a body is of the profile.
+#[tactic(auto, using(crate::proofs::ProfileLemmas::forms_listed))]
+fn is_body(program: &Program, stmts: &[Stmt]) -> bool
+    ensures { result ≡ spec.are_forms (tree program.now) (block stmts.now) }
+{
+    are_forms(program, stmts)
 }
 
 // Whether all statements outside of loops are of the profile.
