@@ -14,7 +14,9 @@ use std::alloc::{AllocError, Global};
 
 const MOST_WORDS: usize = 64;
 
-/// The request that words are, the program's name first: that of a plain spelling, else what `clap` makes of the words within the same limits.
+/// The request that words are, the program's name first.
+///
+/// It is that of a plain spelling, else what `clap` makes of the words within the same limits.
 pub fn read_words<'a>(alloc: Global, words: &'a [String]) -> Result<Request<'a>, WordsFault>
     ensures plain { (request : asked.Request) → Spells (texts words.now) request → IfOk result (λ r. seen r ≡ request) }
     ensures never_usage { (request : asked.Request) → Spells (texts words.now) request → result ≢ Err WordsFault.Usage }
