@@ -1,0 +1,10 @@
+pub mod Numbers
+pub mod Steps
+pub mod Settings
+pub mod Requests
+pub mod Commands
+pub mod Asking
+pub mod Plain
+pub mod Laws
+pub mod Reading
+pub mod Seen
