@@ -6,8 +6,8 @@ use Rattle.sial_parser.specs.Words.{IsTextOf}
 use Rattle.sial_syntax.specs.Tree.{Tree, tree}
 use Rattle.sip_grant.specs.Granting.{IsGrantedFor}
 use Rattle.sip_grant.specs.Loads.{IsUnread, IsStarved, AreRead}
-use Rattle.sip_grant.specs.Names.{Names, named, program_of, input_of, files_of}
-use Rattle.sip_grant.specs.Refusals.{ForTexts, Refuses, BlamesProgram}
+use Rattle.sip_grant.specs.Names.{Names, named, program_file, program_of, input_of, files_of}
+use Rattle.sip_grant.specs.Refusals.{ForTexts, Refuses, RefusesProgram, BlamesProgram}
 use Rattle.sip_grant.specs.Ruled.{IsRuled, BlamesInput}
 use Rattle.sip_grant.specs.declared.refusal.Refusal.{Refusal}
 use Rattle.sip_grant.specs.declared.refusal.Refusal.TheVariants.{NoProgram, NoTree, Shape, Sides, NoInput, BadInput, Unfit, OutOfMemory}
@@ -31,7 +31,7 @@ pub granted_for :
     (r : Ruled)
     (given : Input)
     (job : Granted)
-    → load old (program_of (named program program)) (Ok tt) text mid
+    → load old (program_file program) (Ok tt) text mid
     → IsRuled text r
     → load mid (input_of (named program input)) (Ok tt) given_text new
     → tree job.program ≡ tree r.program
@@ -59,7 +59,7 @@ pub refuses_texts :
     (text given_text : List ℕ)
     (r : Ruled)
     (refusal : Refusal)
-    → load old (program_of (named program program)) (Ok tt) text mid
+    → load old (program_file program) (Ok tt) text mid
     → IsRuled text r
     → load mid (input_of (named program input)) (Ok tt) given_text new
     → BlamesInput (tree r.program) given_text refusal
@@ -98,7 +98,7 @@ pub no_input :
     (program input : List ℕ)
     (text : List ℕ)
     (r : Ruled)
-    → load old (program_of (named program program)) (Ok tt) text mid
+    → load old (program_file program) (Ok tt) text mid
     → IsRuled text r
     → IsUnread load mid new (input_of (named program input))
     → Refuses load old new (named program input) NoInput
@@ -112,7 +112,7 @@ pub starved :
     (old mid new : F)
     (program input : List ℕ)
     (text : List ℕ)
-    → load old (program_of (named program program)) (Ok tt) text mid
+    → load old (program_file program) (Ok tt) text mid
     → IsStarved load mid new (input_of (named program input))
     → Refuses load old new (named program input) OutOfMemory
 starved load old mid new program input text loaded starves = inr (inr (text, mid, loaded, inr (inl starves)))
@@ -122,17 +122,30 @@ pub refuses_program :
     {F : Type 0}
     (load : LoadOf F)
     (old new : F)
-    (program input : List ℕ)
+    (name : List ℕ)
     (text : List ℕ)
     (refusal : Refusal)
-    → load old (program_of (named program program)) (Ok tt) text new
+    → load old (program_file name) (Ok tt) text new
     → BlamesProgram text refusal
-    → Refuses load old new (named program input) refusal
-refuses_program load old new program input text NoProgram loaded blames = absurd blames
-refuses_program load old new program input text (NoTree fault) loaded blames = (text, loaded, blames)
-refuses_program load old new program input text (Shape fault) loaded blames = (text, loaded, blames)
-refuses_program load old new program input text (Sides fault) loaded blames = (text, loaded, blames)
-refuses_program load old new program input text NoInput loaded blames = absurd blames
-refuses_program load old new program input text (BadInput fault) loaded blames = absurd blames
-refuses_program load old new program input text (Unfit fault) loaded blames = absurd blames
-refuses_program load old new program input text OutOfMemory loaded blames = inr (inr (text, new, loaded, inl refl))
+    → RefusesProgram load old new name refusal
+refuses_program load old new name text NoProgram loaded blames = absurd blames
+refuses_program load old new name text (NoTree fault) loaded blames = (text, loaded, blames)
+refuses_program load old new name text (Shape fault) loaded blames = (text, loaded, blames)
+refuses_program load old new name text (Sides fault) loaded blames = (text, loaded, blames)
+refuses_program load old new name text NoInput loaded blames = absurd blames
+refuses_program load old new name text (BadInput fault) loaded blames = absurd blames
+refuses_program load old new name text (Unfit fault) loaded blames = absurd blames
+refuses_program load old new name text OutOfMemory loaded blames = inr (inr (text, loaded, tt))
+
+-- A refused program is refused with any input.
+pub refuses_both : {F : Type 0} (load : LoadOf F) (old new : F) (program input : List ℕ) (refusal : Refusal) → RefusesProgram load old new program refusal → Refuses load old new (named program input) refusal
+refuses_both load old new program input NoProgram refuses = inl (refl, refuses)
+refuses_both load old new program input (NoTree fault) refuses = refuses
+refuses_both load old new program input (Shape fault) refuses = refuses
+refuses_both load old new program input (Sides fault) refuses = refuses
+refuses_both load old new program input NoInput refuses = absurd refuses
+refuses_both load old new program input (BadInput fault) refuses = absurd refuses
+refuses_both load old new program input (Unfit fault) refuses = absurd refuses
+refuses_both load old new program input OutOfMemory (inl same) = inl same
+refuses_both load old new program input OutOfMemory (inr (inl starves)) = inr (inl starves)
+refuses_both load old new program input OutOfMemory (inr (inr (text, loaded, any))) = inr (inr (text, new, loaded, inl refl))

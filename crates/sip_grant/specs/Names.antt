@@ -20,9 +20,13 @@ most_program = 16777216
 abbrev pub most_input : ℕ
 most_input = 1048576
 
+-- the file of a program
+abbrev pub program_file : (name : List ℕ) → Wanted
+program_file name = wanted name most_program
+
 -- the file of the program
 abbrev pub program_of : Names → Wanted
-program_of names = wanted names.program most_program
+program_of names = program_file names.program
 
 -- the file of the input
 abbrev pub input_of : Names → Wanted

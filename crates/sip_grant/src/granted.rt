@@ -1,12 +1,12 @@
 //! A program and its input, loaded one after the other.
 
-ghost use Rattle.std.specs.Prelude.{◌≡◌, ℕ, List, Ok, IfOk, IfErr};
+ghost use Rattle.std.specs.Prelude.{◌≡◌, IfOk, IfErr};
 ghost use Rattle.sip_files.specs.Files.{CountsOnly};
 ghost use Rattle.sip_files.specs.Loading.{Loading};
 ghost use Rattle.sip_files.specs.declared.call.Call.TheVariants.{Load};
 ghost use Rattle.sip_grant.specs.Granting.{IsGrantedFor};
-ghost use Rattle.sip_grant.specs.Names.{named, program_of};
-ghost use Rattle.sip_grant.specs.Refusals.{ForTexts, Refuses};
+ghost use Rattle.sip_grant.specs.Names.{named};
+ghost use Rattle.sip_grant.specs.Refusals.{ForProgram, ForTexts, Refuses, RefusesProgram};
 ghost use Rattle.sip_grant.specs.Ruled.{IsRuled};
 
 use crate::fitted::fitted;
@@ -37,7 +37,7 @@ pub fn load_granted<F: Files>(
     ensures counts { CountsOnly Load (F.faults files.old) (F.faults files.new) }
     ensures loans { F.loans files.new ≡ F.loans files.old }
 {
-    let ruled = match load_ruled(alloc, files, program) {
+    let ruled = match load_program(alloc, files, program) {
         Ok(ruled) => ruled,
         Err(refusal) => return Err(refusal),
     };
@@ -48,13 +48,17 @@ pub fn load_granted<F: Files>(
     }
 }
 
-// Loads a program, if it keeps the rules.
+/// Loads a program, of at most 16 MiB, if it keeps the rules.
 #[tactic(auto, using(crate::proofs::LoadLemmas::refuses_program))]
-fn load_ruled<F: Files>(alloc: Global, files: &mut F, program: &str) -> Result<Ruled, Refusal>
-    ensures found { IfOk result (λ r. (text : List ℕ) × Loading F.load_gives F.told F.faults F.overlong
-        files.old (program_of (named program.now program.now)) (Ok tt) text files.new × IsRuled text r) }
-    ensures refused { IfErr result (λ refusal. (input : List ℕ) → Refuses (Loading F.load_gives F.told F.faults F.overlong)
-        files.old files.new (named program.now input) refusal) }
+pub fn load_program<F: Files>(
+    alloc: Global,
+    files: &mut F,
+    program: &str,
+) -> Result<Ruled, Refusal>
+    ensures ruled { IfOk result (λ r. ForProgram (Loading F.load_gives F.told F.faults F.overlong)
+        files.old files.new program.now (λ text. IsRuled text r)) }
+    ensures refused { IfErr result (RefusesProgram (Loading F.load_gives F.told F.faults F.overlong)
+        files.old files.new program.now) }
 
     ensures told { F.told files.new ≡ F.told files.old }
     ensures counts { CountsOnly Load (F.faults files.old) (F.faults files.new) }

@@ -7,5 +7,6 @@ mod refusal;
 mod ruled;
 mod text;
 
-pub use granted::load_granted;
+pub use granted::{load_granted, load_program};
 pub use refusal::Refusal;
+pub use ruled::Ruled;

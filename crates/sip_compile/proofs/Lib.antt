@@ -1,0 +1,2 @@
+mod FilingLemmas
+mod CompilingLemmas
