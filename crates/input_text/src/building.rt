@@ -2,7 +2,7 @@
 
 ghost use Rattle.std.specs.Prelude.{◌≡◌, IfOk, OnOk, map};
 ghost use Rattle.input_text.specs.Adding as given;
-ghost use Rattle.input_text.specs.Reading as spec;
+ghost use Rattle.input_text.specs.LineReading as spec;
 ghost use Rattle.input_text.specs.Seen.{IsTied, seen};
 ghost use Rattle.input_text.specs.declared.said.Said.TheVariants as said;
 
