@@ -28,7 +28,8 @@ by_wrong added g n said None = Ok (added g n said)
 by_wrong added g n said (Some what) = Err (fault_at n what)
 
 -- with what a line says, if it says something, or the line's fault
-abbrev pub add_said : {G S : Type 0} → (wrong : G → S → Option Wrong) → (added : G → (line : ℕ) → S → G) → G → (line : ℕ) → Option S → Result G InputFault
+abbrev pub add_said : {G S : Type 0} → (wrong : G → S → Option Wrong) → (added : G → (line : ℕ) → S → G)
+    → G → (line : ℕ) → Option S → Result G InputFault
 add_said wrong added g n None = Err (fault_at n BadLine)
 add_said wrong added g n (Some said) = by_wrong added g n said (wrong g said)
 
@@ -38,7 +39,8 @@ after_line go (Ok g) = go g
 after_line go (Err fault) = Err fault
 
 -- lines from a number on
-abbrev pub add_lines : {G : Type 0} → (add_line : G → (line : ℕ) → List ℕ → Result G InputFault) → (line : ℕ) → G → List (List ℕ) → Result G InputFault
+abbrev pub add_lines : {G : Type 0} → (add_line : G → (line : ℕ) → List ℕ → Result G InputFault)
+    → (line : ℕ) → G → List (List ℕ) → Result G InputFault
 add_lines add_line n g [] = Ok g
 add_lines add_line n g (line ∷ lines) = after_line (λ h. add_lines add_line (n + 1) h lines) (add_line g n line)
 

@@ -22,23 +22,26 @@ fault_at n TooWide = fault.TooWide n
 fault_at n Twice = fault.Twice n
 fault_at n TooMany = fault.TooMany n
 
--- Lines that each say something (`Says`) lead from what is given before them to what is given behind them: nothing is wrong with what they say
--- after what is given before it (`wrong`), and each adds it (`added`). The first of them has this number.
-abbrev pub LeadTo : {G S : Type 0} → (Says : (line : List ℕ) → S → Type 0) → (wrong : G → S → Option Wrong) → (added : G → (line : ℕ) → S → G)
+-- Lines from a number on lead from what is given before them to what is given behind them: each says something (`Says`), nothing is wrong
+-- with it after what is given before it (`wrong`), and it adds it (`added`).
+abbrev pub LeadTo :
+    {G S : Type 0} → (Says : (line : List ℕ) → S → Type 0) → (wrong : G → S → Option Wrong) → (added : G → (line : ℕ) → S → G)
     → (line : ℕ) → G → List (List ℕ) → G → Type 0
 LeadTo Says wrong added n g [] end = end ≡ g
 LeadTo {S = S} Says wrong added n g (line ∷ lines) end =
     (said : S) × Says line said × (wrong g said ≡ None) × LeadTo Says wrong added (n + 1) (added g n said) lines end
 
 -- what is wrong with a line: it says nothing, or what it says is too wide, given before or too many
-abbrev pub IsWrong : {G S : Type 0} → (Says : (line : List ℕ) → S → Type 0) → (wrong : G → S → Option Wrong) → G → (line : List ℕ) → Wrong → Type 0
+abbrev pub IsWrong :
+    {G S : Type 0} → (Says : (line : List ℕ) → S → Type 0) → (wrong : G → S → Option Wrong) → G → (line : List ℕ) → Wrong → Type 0
 IsWrong {S = S} Says wrong g line BadLine = (said : S) → Says line said → ⊥
 IsWrong {S = S} Says wrong g line TooWide = (said : S) × Says line said × (wrong g said ≡ Some TooWide)
 IsWrong {S = S} Says wrong g line Twice = (said : S) × Says line said × (wrong g said ≡ Some Twice)
 IsWrong {S = S} Says wrong g line TooMany = (said : S) × Says line said × (wrong g said ≡ Some TooMany)
 
--- the first wrong line of lines has a fault: the lines before it say something that isn't wrong
-abbrev pub HaveFault : {G S : Type 0} → (Says : (line : List ℕ) → S → Type 0) → (wrong : G → S → Option Wrong) → (added : G → (line : ℕ) → S → G)
+-- the first wrong line of lines has a fault: each line before it says something that isn't wrong
+abbrev pub HaveFault :
+    {G S : Type 0} → (Says : (line : List ℕ) → S → Type 0) → (wrong : G → S → Option Wrong) → (added : G → (line : ℕ) → S → G)
     → (line : ℕ) → G → List (List ℕ) → InputFault → Type 0
 HaveFault Says wrong added n g [] fault = ⊥
 HaveFault {S = S} Says wrong added n g (line ∷ lines) fault =

@@ -46,7 +46,11 @@ return_part (b ∷ bs) = if b == 10 then gap 2 else None
 
 -- the sign that a byte is, before these bytes
 abbrev pub sign_part : (first : ℕ) → List ℕ → Option Part
-sign_part first bytes = if begins is_equals bytes then None else (if first == 61 then sign Equals else (if first == 45 then sign Minus else None))
+sign_part first bytes =
+    if begins is_equals bytes then None
+    else (if first == 61 then sign Equals
+    else (if first == 45 then sign Minus
+    else None))
 
 -- the part that begins so
 abbrev pub part_by : Beginning → (first : ℕ) → (rest : List ℕ) → Option Part

@@ -118,17 +118,25 @@ value_in (Number n ∷ ws) = last_word (any_number (λ m. Some (record { negativ
 value_in (Equals ∷ ws) = None
 value_in (Minus ∷ ws) = last_word (any_number (λ m. Some (record { negative = true; number = m }))) ws
 
+-- a constant, behind its keyword
 unfoldable pub constant_in : List Word → Option Said
 constant_in words = named (λ name. behind_equals (last_word (any_number (λ value. Some (said.Constant name value))))) words
 
+-- the lengths of a kind's segments
 unfoldable pub segments_in : List Word → Option Said
 segments_in words =
-    named (λ name. some_words (λ rest. option_and_then (λ kind. option_and_then (λ lengths. Some (said.Segments kind lengths)) (numbers_from 1 1024 [] rest)) (kind_of name))) words
+    named (λ name. some_words (λ rest.
+    option_and_then (λ kind. option_and_then (λ lengths. Some (said.Segments kind lengths)) (numbers_from 1 1024 [] rest))
+    (kind_of name))) words
 
+-- the length of a kind's pieces
 unfoldable pub subsegment_in : List Word → Option Said
 subsegment_in words =
-    named (λ name. last_word (λ word. option_and_then (λ kind. option_and_then (λ size. Some (said.Subsegment kind size)) (number_in 1 1024 word)) (kind_of name))) words
+    named (λ name. last_word (λ word.
+    option_and_then (λ kind. option_and_then (λ size. Some (said.Subsegment kind size)) (number_in 1 1024 word))
+    (kind_of name))) words
 
+-- a scalar
 unfoldable pub scalar_in : List Word → Option Said
 scalar_in words = named (λ name. behind_equals (λ rest. option_and_then (λ value. Some (said.Scalar name value)) (value_in rest))) words
 
@@ -136,10 +144,13 @@ scalar_in words = named (λ name. behind_equals (λ rest. option_and_then (λ va
 unfoldable pub filled : List ℕ → (segments values : List Word) → Option Said
 filled name segments values =
     some_words (λ firsts. some_words (λ seconds.
-    option_and_then (λ numbers. option_and_then (λ elements. Some (said.Block name numbers elements)) (values_from [] false seconds)) (numbers_from 0 (2 ^ 32 - 1) [] firsts)) values) segments
+    option_and_then (λ numbers. option_and_then (λ elements. Some (said.Block name numbers elements)) (values_from [] false seconds))
+    (numbers_from 0 (2 ^ 32 - 1) [] firsts)) values) segments
 
+-- a block
 unfoldable pub block_in : List Word → Option Said
-block_in words = named (λ name rest. behind_equals (filled name (take (prefix_len is_number rest) rest)) (drop (prefix_len is_number rest) rest)) words
+block_in words =
+    named (λ name rest. behind_equals (filled name (take (prefix_len is_number rest) rest)) (drop (prefix_len is_number rest) rest)) words
 
 -- what words say behind a keyword
 abbrev pub said_by : Option Keyword → List Word → Option Said

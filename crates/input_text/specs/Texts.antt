@@ -31,7 +31,10 @@ SaysNumbers line said = (numbers : List (Option ℕ)) × HasWords line (map Numb
 
 -- what is wrong with the numbers of a line, where at most so many are wanted; none where nothing is
 abbrev pub wrong_numbers : (most : ℕ) → (before : List ℕ) → List (Option ℕ) → Option Wrong
-wrong_numbers most before said = if list_any is_wide said then Some TooWide else (if nat_lt most (length before + length said) then Some TooMany else None)
+wrong_numbers most before said =
+    if list_any is_wide said then Some TooWide
+    else (if nat_lt most (length before + length said) then Some TooMany
+    else None)
 
 -- with the numbers of a line
 abbrev pub with_numbers : (before : List ℕ) → (line : ℕ) → List (Option ℕ) → List ℕ
