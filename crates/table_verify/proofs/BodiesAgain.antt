@@ -17,7 +17,6 @@ use Rattle.table_verify.proofs.StatementsAgain.{state, Again, closed_again, end_
 -- ---- statements
 
 module _ (entries : List ℕ) (most depth : ℕ) (inner : Inner) (again : Again entries most depth inner) where
-
   if_again : (at text line : ℕ) (test : Cond) (b : Block) (code : List Instruction) (texts : List (List ℕ)) → 1 + body_nesting b ≤ depth → sizes b + 2 ≤ most
       → branch inner line test (at + (sizes b + 2)) (state (at + 1) text ((body_code entries (at + 1) text b ++ instruction line op.EndIf ∷ []) ++ code) (body_prints b ++ texts)) ≡ Some (If test b, state (at + (sizes b + 2)) (text + length (body_prints b)) code texts)
   if_again at text line test b code texts deep small =

@@ -208,13 +208,21 @@ one_found entries depth front left mid x b new head found =
     let rc = body_code entries (left.at + size x.1) (left.text + length (prints x.1)) rest in
     let printed = length-append (prints x.1) (body_prints rest) in
     let d0 = head.deep in
-    let d1 = found.1.1.1 in
-    (x ∷ found.0, (found.1.0 ∙ ap block_of (append_assoc front (x ∷ []) found.0), (record {
-      code = head.code ∙ ap (λ (c : List Instruction). fc ++ c) (s.code ∙ moved entries rest mid.at mid.text (left.at + size x.1) (left.text + length (prints x.1)) new.code a0 t0) ∙ sym (append_assoc fc rc new.code);
-      at = omega (arith, a0, a1);
-      texts = head.texts ∙ ap (λ (u : List (List ℕ)). prints x.1 ++ u) s.texts ∙ sym (append_assoc (prints x.1) (body_prints rest) new.texts);
-      text = omega (arith, t0, t1, printed);
-    }, omega (arith, d0, d1))))
+    let d1 = found.1.1.1 in (
+      x ∷ found.0,
+      (
+        found.1.0 ∙ ap block_of (append_assoc front (x ∷ []) found.0),
+        (
+          record {
+            code = head.code ∙ ap (λ (c : List Instruction). fc ++ c) (s.code ∙ moved entries rest mid.at mid.text (left.at + size x.1) (left.text + length (prints x.1)) new.code a0 t0) ∙ sym (append_assoc fc rc new.code);
+            at = omega (arith, a0, a1);
+            texts = head.texts ∙ ap (λ (u : List (List ℕ)). prints x.1 ++ u) s.texts ∙ sym (append_assoc (prints x.1) (body_prints rest) new.texts);
+            text = omega (arith, t0, t1, printed);
+          },
+          omega (arith, d0, d1),
+        ),
+      ),
+    )
 
 turn_found : (entries : List ℕ) (depth : ℕ) (inner : Inner) → Sound entries depth inner → (most n : ℕ)
     → ((front : List (ℕ × Plain)) (left : Left) (b : Block) (new : Left) → turns entries most inner n front left ≡ Some (b, new) → TurnsFound entries depth front left b new)

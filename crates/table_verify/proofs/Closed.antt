@@ -76,11 +76,11 @@ closed_taken line test o left new is e =
     then_some (Takes (instruction line o) left new) (next left) (λ x. cond ((x.0.line == line) && test x.0.operation) (Some x.1) None) new e
     (λ x first rest. kept (Takes (instruction line o) left new) ((x.0.line == line) && test x.0.operation) x.1 new rest
     (λ holds same.
-      let h = both (x.0.line == line) (test x.0.operation) holds in
-      let where_is : x.0.line ≡ line = eqb-true x.0.line line h.0 in
-      let what : x.0.operation ≡ o = is x.0.operation h.1 in
-      let whole : x.0 ≡ instruction line o = ap (λ (l : ℕ). instruction l x.0.operation) where_is ∙ ap (λ (p : Operation). instruction line p) what in
-      subst (λ (i : Instruction). Takes i left new) whole (subst (λ (l : Left). Takes x.0 left l) same (taken left x.0 x.1 first))))
+    let h = both (x.0.line == line) (test x.0.operation) holds in
+    let where_is : x.0.line ≡ line = eqb-true x.0.line line h.0 in
+    let what : x.0.operation ≡ o = is x.0.operation h.1 in
+    let whole : x.0 ≡ instruction line o = ap (λ (l : ℕ). instruction l x.0.operation) where_is ∙ ap (λ (p : Operation). instruction line p) what in
+    subst (λ (i : Instruction). Takes i left new) whole (subst (λ (l : Left). Takes x.0 left l) same (taken left x.0 x.1 first))))
 
 is_end_do : (head : ℕ) (o : Operation) → ends_do head o ≡ true → o ≡ op.EndDo head
 is_end_do head (op.EndDo to) e = ap op.EndDo (eqb-true to head e)

@@ -132,9 +132,10 @@ indices_found [] (d ∷ ds) left new c = absurd c
 indices_found (e ∷ es) [] left new c = absurd c
 indices_found (e ∷ es) (d ∷ ds) left new c =
     let a = index_found e left c.0 d c.1.0 in
-    let b = indices_found es ds c.0 new c.1.1 in
-    (ap (λ x. x ∷ es) a.0 ∙ ap (λ xs. index_entry left.text d ∷ xs) (b.0 ∙ ap (λ (n : ℕ). index_entries n ds) a.1.text),
-      subst (λ (names : List (List ℕ)). TakesNames names left new) (sym (flat_map-cons index_texts d ds)) (and_names (index_texts d) (flat_map index_texts ds) left c.0 new a.1 b.1))
+    let b = indices_found es ds c.0 new c.1.1 in (
+      ap (λ x. x ∷ es) a.0 ∙ ap (λ xs. index_entry left.text d ∷ xs) (b.0 ∙ ap (λ (n : ℕ). index_entries n ds) a.1.text),
+      subst (λ (names : List (List ℕ)). TakesNames names left new) (sym (flat_map-cons index_texts d ds)) (and_names (index_texts d) (flat_map index_texts ds) left c.0 new a.1 b.1),
+    )
 
 array_found : (e : ArrayEntry) (left new : Left) (d : ArrayDecl) → array e left ≡ Some (d, new) → (e ≡ record { text = left.text; line = d.line; kind = d.kind; dims = d.dims }) × TakesNames (d.name ∷ []) left new
 unfolding array
@@ -152,9 +153,10 @@ arrays_found [] (d ∷ ds) left new c = absurd c
 arrays_found (e ∷ es) [] left new c = absurd c
 arrays_found (e ∷ es) (d ∷ ds) left new c =
     let a = array_found e left c.0 d c.1.0 in
-    let b = arrays_found es ds c.0 new c.1.1 in
-    (ap (λ x. x ∷ es) a.0 ∙ ap (λ xs. (record { text = left.text; line = d.line; kind = d.kind; dims = d.dims }) ∷ xs) (b.0 ∙ ap (λ (n : ℕ). array_entries n ds) a.1.text),
-      and_names (d.name ∷ []) (map (λ (x : ArrayDecl). x.name) ds) left c.0 new a.1 b.1)
+    let b = arrays_found es ds c.0 new c.1.1 in (
+      ap (λ x. x ∷ es) a.0 ∙ ap (λ xs. (record { text = left.text; line = d.line; kind = d.kind; dims = d.dims }) ∷ xs) (b.0 ∙ ap (λ (n : ℕ). array_entries n ds) a.1.text),
+      and_names (d.name ∷ []) (map (λ (x : ArrayDecl). x.name) ds) left c.0 new a.1 b.1,
+    )
 
 pub scalars_found : (es : List ℕ) (ds : List (List ℕ)) (left new : Left) → Chain numbered es ds left new → (es ≡ scalar_entries left.text ds) × TakesNames ds left new
 scalars_found [] [] left new c = (refl, nothing_to left new c)
@@ -183,6 +185,10 @@ procedures_found [] (d ∷ ds) left new c = absurd c
 procedures_found (e ∷ es) [] left new c = absurd c
 procedures_found (e ∷ es) (d ∷ ds) left new c =
     let a = named_found e left c.0 d c.1.0 in
-    let b = procedures_found es ds c.0 new c.1.1 in
-    ((ap (λ x. x ∷ es) a.0 ∙ ap (λ xs. (record { text = left.text; entry = e.entry }) ∷ xs) (b.0.0 ∙ ap (λ (n : ℕ). procedure_entries n (entries_in es)) a.1.text),
-      and_names (d.name ∷ []) (map (λ (q : Procedure). q.name) ds) left c.0 new a.1 b.0.1), ap suc b.1)
+    let b = procedures_found es ds c.0 new c.1.1 in (
+      (
+        ap (λ x. x ∷ es) a.0 ∙ ap (λ xs. (record { text = left.text; entry = e.entry }) ∷ xs) (b.0.0 ∙ ap (λ (n : ℕ). procedure_entries n (entries_in es)) a.1.text),
+        and_names (d.name ∷ []) (map (λ (q : Procedure). q.name) ds) left c.0 new a.1 b.0.1,
+      ),
+      ap suc b.1,
+    )

@@ -141,7 +141,6 @@ tests_again line (suc n) front (w ∷ ws) at text code texts few none =
 -- ---- statements
 
 module _ (entries : List ℕ) (most depth : ℕ) (inner : Inner) (again : Again entries most depth inner) where
-
   pub do_again : (at text line index : ℕ) (b : Block) (code : List Instruction) (texts : List (List ℕ)) → 1 + body_nesting b ≤ depth → sizes b + 2 ≤ most
       → over_segments inner at line index (at + (sizes b + 2)) (state (at + 1) text ((body_code entries (at + 1) text b ++ instruction line (op.EndDo at) ∷ []) ++ code) (body_prints b ++ texts)) ≡ Some (Do index b, state (at + (sizes b + 2)) (text + length (body_prints b)) code texts)
   do_again at text line index b code texts deep small =

@@ -128,13 +128,18 @@ one_test : (line : ℕ) (front : List Cond) (left mid : Left) (test : Cond) (all
 one_test line front left mid test all new head found =
     let t = found.1.1 in
     let a = head.at in
-    let b = t.at in
-    (test ∷ found.0, (found.1.0 ∙ append_assoc front (test ∷ []) found.0, record {
-      code = head.code ∙ ap (λ (c : List Instruction). instruction line (op.Where test) ∷ c) t.code;
-      at = omega (arith, a, b);
-      texts = head.texts ∙ t.texts;
-      text = t.text ∙ head.text;
-    }))
+    let b = t.at in (
+      test ∷ found.0,
+      (
+        found.1.0 ∙ append_assoc front (test ∷ []) found.0,
+        record {
+          code = head.code ∙ ap (λ (c : List Instruction). instruction line (op.Where test) ∷ c) t.code;
+          at = omega (arith, a, b);
+          texts = head.texts ∙ t.texts;
+          text = t.text ∙ head.text;
+        },
+      ),
+    )
 
 tests_step : (line n : ℕ) → ((front : List Cond) (left : Left) (all : List Cond) (new : Left) → wheres line n front left ≡ Some (all, new) → TestsFound line front left all new)
     → (front : List Cond) (left : Left) (all : List Cond) (new : Left) → (r : Read Cond) → where_at line left ≡ r → more r (front, left) (λ x. wheres line n (front ++ x.0 ∷ []) x.1) ≡ Some (all, new) → TestsFound line front left all new
@@ -185,7 +190,7 @@ pardo_found entries depth inner sound most line indices last old left new f head
     let deep = s.1 in
     subst (λ (p : Plain × Left). ReadsForm entries depth line p.0 old p.1) same (record {
       code = head.code ∙ ap (λ (c : List Instruction). instruction line (op.Pardo indices last) ∷ c) inside
-      ∙ ap (λ (n : ℕ). instruction line (op.Pardo indices n) ∷ ((wheres_code line ws ++ (bc ++ tail ∷ [])) ++ y.code)) jump;
+          ∙ ap (λ (n : ℕ). instruction line (op.Pardo indices n) ∷ ((wheres_code line ws ++ (bc ++ tail ∷ [])) ++ y.code)) jump;
       at = omega (arith, a0, a1, a2, a3);
       texts = head.texts ∙ t.texts ∙ s.0.texts ∙ ap (λ (u : List (List ℕ)). body_prints b ++ u) z.texts;
       text = omega (arith, t0, t1, t2, t3);

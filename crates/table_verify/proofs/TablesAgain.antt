@@ -86,10 +86,14 @@ all_again entries most k front at text (q ∷ qs) code texts starts shallow smal
     ∙ procedure_by entries most q.name _ q.body _ _ (body_again entries most most_nesting at text q.body (ret ∷ (rc ++ code)) (prints_of qs ++ texts) shallow.0 small.0 refl)
     (return_again (at + sizes q.body) (text + len) (rc ++ code) (prints_of qs ++ texts))
     ∙ ap (λ (n : ℕ). Some (q, state n (text + len) (rc ++ code) (prints_of qs ++ texts))) place in
-    let rest = all_again entries most (k + 1) (front ++ q ∷ []) (at + procedure_size q) (text + len) qs code texts h.1 shallow.1 small.1 in
-    (rest.0, (rest.1.0,
-      each_by e front (k, emptied q) (enumerate_from (k + 1) (map emptied qs)) whole q _ _ (filled_by entries most k (emptied q) whole _ h.0 one) rest.1.1
-      ∙ ap (λ (x : List Procedure). Some (x, state rest.0 rest.1.0 code texts)) (append_assoc front (q ∷ []) qs)))
+    let rest = all_again entries most (k + 1) (front ++ q ∷ []) (at + procedure_size q) (text + len) qs code texts h.1 shallow.1 small.1 in (
+      rest.0,
+      (
+        rest.1.0,
+        each_by e front (k, emptied q) (enumerate_from (k + 1) (map emptied qs)) whole q _ _ (filled_by entries most k (emptied q) whole _ h.0 one) rest.1.1
+            ∙ ap (λ (x : List Procedure). Some (x, state rest.0 rest.1.0 code texts)) (append_assoc front (q ∷ []) qs),
+      ),
+    )
 
 -- ---- the name and what is declared
 
@@ -150,9 +154,14 @@ bodies_again most p text shallow small few =
     body_again entries most most_nesting 0 text p.body back (prints_of p.procedures) shallow.body small refl ∙ ap (λ (n : ℕ). Some (p.body, state n (text + len) back (prints_of p.procedures))) place in
     let rest = all_again entries most 0 [] (sizes p.body + 1) (text + len) p.procedures [] [] refl shallow.procedures few in
     let closed : state (sizes p.body + 1) (text + len) pc (prints_of p.procedures) ≡ state (sizes p.body + 1) (text + len) (pc ++ []) (prints_of p.procedures ++ []) =
-    ap (λ (c : List Instruction). state (sizes p.body + 1) (text + len) c (prints_of p.procedures)) (sym (append-nil pc)) ∙ ap (λ (u : List (List ℕ)). state (sizes p.body + 1) (text + len) (pc ++ []) u) (sym (append-nil (prints_of p.procedures))) in
-    (rest.0, (rest.1.0, bodies_by entries most (headed p) _ p.body _ _ p.procedures _ first (stop_again (sizes p.body) (text + len) pc (prints_of p.procedures))
-      (ap (each (filled entries most) [] (enumerate_from 0 (map emptied p.procedures))) closed ∙ rest.1.1)))
+    ap (λ (c : List Instruction). state (sizes p.body + 1) (text + len) c (prints_of p.procedures)) (sym (append-nil pc)) ∙ ap (λ (u : List (List ℕ)). state (sizes p.body + 1) (text + len) (pc ++ []) u) (sym (append-nil (prints_of p.procedures))) in (
+      rest.0,
+      (
+        rest.1.0,
+        bodies_by entries most (headed p) _ p.body _ _ p.procedures _ first (stop_again (sizes p.body) (text + len) pc (prints_of p.procedures))
+            (ap (each (filled entries most) [] (enumerate_from 0 (map emptied p.procedures))) closed ∙ rest.1.1),
+      ),
+    )
 
 -- ---- whole tables
 

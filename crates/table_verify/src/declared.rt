@@ -12,11 +12,7 @@ use sip_tables::{ArrayEntry, BoundEntry, IndexEntry, ProcedureEntry, RangeEntry}
 use std::alloc::Global;
 
 // The name of a number, if it is the next text.
-fn name<'a>(
-    alloc: Global,
-    number: u64,
-    rest: Rest<'a>,
-) -> Result<(Text, Rest<'a>), VerifyFault>
+fn name<'a>(alloc: Global, number: u64, rest: Rest<'a>) -> Result<(Text, Rest<'a>), VerifyFault>
     ensures { Gives (λ x. (x.0, seen x.1)) result (spec_numbered number (seen rest.entry)) }
 {
     let (text, rest) = numbered(number, rest)?;
@@ -121,11 +117,7 @@ fn array<'a>(
 }
 
 // A scalar's name.
-fn scalar<'a>(
-    alloc: Global,
-    entry: &u32,
-    rest: Rest<'a>,
-) -> Result<(Text, Rest<'a>), VerifyFault>
+fn scalar<'a>(alloc: Global, entry: &u32, rest: Rest<'a>) -> Result<(Text, Rest<'a>), VerifyFault>
     ensures { Gives (λ x. (x.0, seen x.1)) result (spec_numbered entry.now (seen rest.entry)) }
 {
     name(alloc, u64::from(*entry), rest)

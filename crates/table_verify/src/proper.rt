@@ -33,7 +33,8 @@ fn has_form(program: &Program, form: &Form) -> bool
     ensures numbers { IsTrue result → IsTrue (form_numbers (plain_form form.now)) }
 {
     match form {
-        Form::Do { index, body } => has_index(program, *index) && has_body(program, body.as_slice()),
+        Form::Do { index, body } => has_index(program, *index)
+            && has_body(program, body.as_slice()),
         Form::DoIn { sub, index, body } => {
             has_index(program, *sub)
                 && has_index(program, *index)

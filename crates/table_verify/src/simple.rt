@@ -64,11 +64,7 @@ pub fn simple(alloc: Global, operation: &Operation) -> Result<Form, VerifyFault>
 
 /// A printed text, if it has this number.
 #[tactic(auto, unfolding(crate::specs::Statements::print))]
-pub fn print(
-    alloc: Global,
-    number: u32,
-    rest: Rest<'_>,
-) -> Result<(Form, Rest<'_>), VerifyFault>
+pub fn print(alloc: Global, number: u32, rest: Rest<'_>) -> Result<(Form, Rest<'_>), VerifyFault>
     ensures { Gives (λ x. (plain_form x.0, seen x.1)) result (spec.print number (seen rest.entry)) }
 {
     let (text, rest) = numbered(u64::from(number), rest)?;

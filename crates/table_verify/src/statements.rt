@@ -221,7 +221,16 @@ fn branch<'a>(
         return Err(VerifyFault::NotAProgram);
     };
     if last.line == line && otherwise as usize == rest.at {
-        after_branch(alloc, whole, depth, line, cond, first, &last.operation, rest)
+        after_branch(
+            alloc,
+            whole,
+            depth,
+            line,
+            cond,
+            first,
+            &last.operation,
+            rest,
+        )
     } else {
         Err(VerifyFault::NotAProgram)
     }

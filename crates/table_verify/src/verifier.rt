@@ -139,7 +139,7 @@ fn filled<'a>(
     start: Rest<'a>,
 ) -> Result<(Vec<Proc>, Rest<'a>), VerifyFault>
     ensures { Gives (λ x. (map spec_procedure x.0.items, seen x.1)) result
-      (each (spec.filled whole.entry.entries.now whole.entry.len) [] (enumerate_from 0 (map spec_procedure named.now)) (seen start.entry)) }
+        (each (spec.filled whole.entry.entries.now whole.entry.len) [] (enumerate_from 0 (map spec_procedure named.now)) (seen start.entry)) }
 {
     let mut filled = Vec::new(alloc);
     let mut rest = start;
@@ -160,7 +160,7 @@ fn procedure<'a>(
     rest: Rest<'a>,
 ) -> Result<(Proc, Rest<'a>), VerifyFault>
     ensures { Gives (λ x. (spec_procedure x.0, seen x.1)) result
-      (spec.filled whole.entry.entries.now whole.entry.len (number, spec_procedure named.now) (seen rest.entry)) }
+        (spec.filled whole.entry.entries.now whole.entry.len (number, spec_procedure named.now) (seen rest.entry)) }
 {
     let entry = whole.entries.get(number).copied().unwrap_or(0);
     if entry as usize == rest.at {

@@ -20,10 +20,7 @@ pub fn passes(program: &Program) -> Result<bool, OutOfMemory>
     ensures numbers { IfOk result (λ b. IsTrue b → IsTrue (spec.all_numbers (tree program.now))) }
 {
     let count = all_statements(program)?;
-    Ok(passes_lists(program)
-        && passes_names(program)
-        && passes_bodies(program)
-        && count <= 65535)
+    Ok(passes_lists(program) && passes_names(program) && passes_bodies(program) && count <= 65535)
 }
 
 // Whether no list is longer than it may be.
