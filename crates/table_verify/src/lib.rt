@@ -7,12 +7,12 @@ mod declared;
 mod fault;
 mod names;
 mod parts;
+mod passing;
 mod proper;
 mod rest;
 mod simple;
 mod statements;
 mod verifier;
-mod whole;
 
 pub use fault::VerifyFault;
 pub use verifier::unflatten;

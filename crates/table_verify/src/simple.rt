@@ -1,14 +1,14 @@
-//! Statements that are one instruction.
+//! Statements that are one instruction, and an `if` of its parts.
 
 ghost use Rattle.std.specs.Prelude.{◌≡◌, option_map};
-ghost use Rattle.sial_syntax.specs.Tree.{plain_form};
+ghost use Rattle.sial_syntax.specs.Tree.{IfElse, block, plain_form};
 ghost use Rattle.table_verify.specs.Rest.{Gives, seen};
 ghost use Rattle.table_verify.specs.Statements as spec;
 
 use crate::copies;
 use crate::fault::VerifyFault;
 use crate::rest::{Rest, numbered};
-use sial_syntax::{Form, Text};
+use sial_syntax::{Cond, Form, Stmt, Text};
 use sip_tables::Operation;
 use std::alloc::Global;
 
@@ -86,5 +86,16 @@ pub fn call<'a>(
         Ok((Form::Call { proc: procedure }, rest))
     } else {
         Err(VerifyFault::NotAProgram)
+    }
+}
+
+/// An `if` with both branches.
+pub fn branches(cond: Cond, then_body: Vec<Stmt>, other: Vec<Stmt>) -> Form
+    ensures { plain_form result ≡ IfElse cond (block then_body.items) (block other.items) }
+{
+    Form::If {
+        cond,
+        then_body,
+        else_body: Some(other),
     }
 }

@@ -1,14 +1,14 @@
 //! Statements with bodies, and bodies.
 
 ghost use Rattle.std.specs.Prelude.{◌≡◌, map};
-ghost use Rattle.sial_syntax.specs.Tree.{IfElse, block, plain_form, plain_stmt};
+ghost use Rattle.sial_syntax.specs.Tree.{block, plain_form, plain_stmt};
 ghost use Rattle.table_verify.specs.Rest.{Gives, seen};
 ghost use Rattle.table_verify.specs.Statements as spec;
 
 use crate::closings::{begin, end_do, end_if, end_pardo, wheres};
 use crate::fault::VerifyFault;
 use crate::rest::{Rest, next};
-use crate::simple::{call, print, simple};
+use crate::simple::{branches, call, print, simple};
 use sial_syntax::{Cond, Form, Stmt};
 use sip_tables::Operation;
 use std::alloc::Global;
@@ -285,16 +285,5 @@ fn second<'a>(
         Ok((branches(cond, first, other), rest))
     } else {
         Err(VerifyFault::NotAProgram)
-    }
-}
-
-// An `if` with both branches.
-fn branches(cond: Cond, then_body: Vec<Stmt>, other: Vec<Stmt>) -> Form
-    ensures { plain_form result ≡ IfElse cond (block then_body.items) (block other.items) }
-{
-    Form::If {
-        cond,
-        then_body,
-        else_body: Some(other),
     }
 }

@@ -2,7 +2,7 @@ use Rattle.std.proofs.Common.{◌≡◌, drop, map}
 use Rattle.std.specs.List.{list_all}
 use Rattle.sial_syntax.specs.Tree.{procedure, tree}
 use Rattle.table_verify.specs.Passing as spec
-use Rattle.table_verify.proofs.whole.has_procedures.Given as goal
+use Rattle.table_verify.proofs.passing.has_procedures.Given as goal
 
 abbrev pub invariant-loop-procedure : goal.invariant-loop-procedure
 invariant-loop-procedure l = record {
