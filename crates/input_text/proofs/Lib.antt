@@ -1,7 +1,12 @@
 pub mod PartLemmas
 pub mod WordLemmas
+pub mod KeyLemmas
+pub mod AmountLemmas
 pub mod SaidLemmas
+pub mod SaidAgainLemmas
 pub mod LineLemmas
 pub mod LinesLemmas
+pub mod InputLemmas
+pub mod NumbersLemmas
 pub mod ProperLemmas
 pub mod SetLemmas

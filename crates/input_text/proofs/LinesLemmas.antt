@@ -2,9 +2,8 @@
 use Rattle.std.proofs.Common.{◌≡◌, ℕ, suc, ◌+◌, ◌<◌, List, [], ◌∷◌, Bool, true, false, cond, ◌==◌, nat_lt, not, take, drop, length, Result, Ok, Err, refl, sym, ap, ◌∙◌, subst, arith}
 use Rattle.std.specs.List.{prefix_len}
 use Rattle.sial_lexer.specs.Characters.{is_within_line}
-use Rattle.input_text.specs.Adding.{Given}
-use Rattle.input_text.specs.Reading.{line_len, add_line, after_line, add_lines, Fails}
-use Rattle.input_text.specs.Texts.{lines_of, before}
+use Rattle.input_text.specs.LineReading.{line_len, after_line, add_lines, Fails}
+use Rattle.input_text.specs.Lines.{lines_of, before}
 use Rattle.input_text.specs.declared.fault.InputFault.{InputFault}
 use Rattle.input_text.specs.declared.fault.InputFault.TheVariants as fault
 use Rattle.std.proofs.lemmas.Bool.{lt-ltb, le-ltb, ltb-true, ltb-false}
@@ -54,34 +53,35 @@ pub has_bytes : (text : List ℕ) → 0 < length text → 0 < line_len text
 has_bytes [] some = absurd (omega arith)
 has_bytes (b ∷ bs) some = has_by b bs (b == 10) refl
 
--- lines that are left are read by the first, and what follows
-pub one_line : (n : ℕ) (g : Given) (rest : List ℕ) → 0 < length rest → add_lines n g (lines_of rest) ≡ after_line (λ h. add_lines (n + 1) h (lines_of (drop (line_len rest) rest))) (add_line g n (take (line_len rest) rest))
-one_line n g [] some = absurd (omega arith)
-one_line n g (b ∷ bs) some = ap (add_lines n g) (first_line b bs)
-
--- a line that adds leaves the others to read
-pub moved : (n : ℕ) (g h : Given) (rest : List ℕ) (total : Result Given InputFault) → 0 < length rest → add_line g n (take (line_len rest) rest) ≡ Ok h → add_lines n g (lines_of rest) ≡ total
-    → add_lines (n + 1) h (lines_of (drop (line_len rest) rest)) ≡ total
-moved n g h rest total some is whole = sym (ap (after_line (λ x. add_lines (n + 1) x (lines_of (drop (line_len rest) rest)))) is) ∙ sym (one_line n g rest some) ∙ whole
-
 -- what fails with one reading fails with another that has the same fault
-pub fails_too : {A B : Type 0} (f : InputFault) (x : Result A InputFault) (y : Result B InputFault) → (x ≡ Err f → y ≡ Err f) → Fails f x → Fails f y
+fails_too : {A B : Type 0} (f : InputFault) (x : Result A InputFault) (y : Result B InputFault) → (x ≡ Err f → y ≡ Err f) → Fails f x → Fails f y
 fails_too fault.OutOfMemory x y so h = tt
 fails_too (fault.BadLine n) x y so h = so h
 fails_too (fault.TooWide n) x y so h = so h
 fails_too (fault.Twice n) x y so h = so h
 fails_too (fault.TooMany n) x y so h = so h
 
--- a wrong line ends the reading
-pub stopped : (n : ℕ) (g : Given) (rest : List ℕ) (f : InputFault) (total : Result Given InputFault) → 0 < length rest → Fails f (add_line g n (take (line_len rest) rest)) → add_lines n g (lines_of rest) ≡ total → Fails f total
-stopped n g rest f total some is whole =
-    fails_too f (add_line g n (take (line_len rest) rest)) total (λ e. sym whole ∙ one_line n g rest some ∙ ap (after_line (λ x. add_lines (n + 1) x (lines_of (drop (line_len rest) rest)))) e) is
+module _ {G : Type 0} (add_line : G → ℕ → List ℕ → Result G InputFault) where
+  -- what the lines behind the first of a text add
+  abbrev others : ℕ → List ℕ → G → Result G InputFault
+  others n rest h = add_lines add_line (n + 1) h (lines_of (drop (line_len rest) rest))
 
--- where nothing is left, the reading has ended
-pub ended : (n : ℕ) (g : Given) (rest : List ℕ) → length rest ≡ 0 → add_lines n g (lines_of rest) ≡ Ok g
-ended n g [] none = refl
-ended n g (b ∷ bs) none = absurd (omega arith)
+  -- lines that are left are read by the first, and what follows
+  one_line : (n : ℕ) (g : G) (rest : List ℕ) → 0 < length rest → add_lines add_line n g (lines_of rest) ≡ after_line (others n rest) (add_line g n (take (line_len rest) rest))
+  one_line n g [] some = absurd (omega arith)
+  one_line n g (b ∷ bs) some = ap (add_lines add_line n g) (first_line b bs)
 
--- the same of a line that is cut off
-pub stopped_at : (n : ℕ) (g : Given) (rest line : List ℕ) (f : InputFault) (total : Result Given InputFault) → line ≡ take (line_len rest) rest → 0 < length rest → Fails f (add_line g n line) → add_lines n g (lines_of rest) ≡ total → Fails f total
-stopped_at n g rest line f total front some is whole = stopped n g rest f total some (subst (λ (t : List ℕ). Fails f (add_line g n t)) front is) whole
+  -- a line that adds leaves the others to read
+  pub moved : (n : ℕ) (g h : G) (rest : List ℕ) (total : Result G InputFault) → 0 < length rest → add_line g n (take (line_len rest) rest) ≡ Ok h → add_lines add_line n g (lines_of rest) ≡ total
+      → others n rest h ≡ total
+  moved n g h rest total some is whole = sym (ap (after_line (others n rest)) is) ∙ sym (one_line n g rest some) ∙ whole
+
+  -- a wrong line ends the reading
+  stopped : (n : ℕ) (g : G) (rest : List ℕ) (f : InputFault) (total : Result G InputFault) → 0 < length rest → Fails f (add_line g n (take (line_len rest) rest)) → add_lines add_line n g (lines_of rest) ≡ total → Fails f total
+  stopped n g rest f total some is whole =
+      fails_too f (add_line g n (take (line_len rest) rest)) total (λ e. sym whole ∙ one_line n g rest some ∙ ap (after_line (others n rest)) e) is
+
+  -- the same of a line that is cut off
+  pub stopped_at : (n : ℕ) (g : G) (rest line : List ℕ) (f : InputFault) (total : Result G InputFault) → line ≡ take (line_len rest) rest → 0 < length rest → Fails f (add_line g n line) → add_lines add_line n g (lines_of rest) ≡ total
+      → Fails f total
+  stopped_at n g rest line f total front some is whole = stopped n g rest f total some (subst (λ (t : List ℕ). Fails f (add_line g n t)) front is) whole

@@ -16,7 +16,7 @@ use Rattle.sial_lexer.specs.declared.token.TokenKind.TheVariants as token
 use Rattle.sial_lexer.proofs.FrontLemmas.{IsRight, front_right, begun}
 use Rattle.sial_lexer.proofs.NumberLemmas.{value_read}
 use Rattle.sial_lexer.proofs.RunLemmas.{run_passes, run_stops, run_is}
-use Rattle.input_text.specs.Reading.{gap, sign, name_part, number_part, return_part, part_by, part_at, is_point, is_equals}
+use Rattle.input_text.specs.Parts.{gap, sign, name_part, number_part, return_part, part_by, part_at, is_point, is_equals}
 use Rattle.input_text.specs.Words.{IsPart, IsWord, IsGap, fitting}
 use Rattle.input_text.specs.declared.word.Part.{Part}
 use Rattle.input_text.specs.declared.word.Word.{Word}

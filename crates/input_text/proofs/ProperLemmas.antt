@@ -20,7 +20,8 @@ use Rattle.sip_input.specs.declared.constant.Constant.{Constant}
 use Rattle.sip_input.specs.declared.input.Input.{Input}
 use Rattle.input_text.specs.Adding.{Given, Lengths, nothing, lengths_of, given_by, has_constant, is_given, is_past_limit, wrong, added}
 use Rattle.input_text.specs.Statements.{Says, words_of}
-use Rattle.input_text.specs.Texts.{LeadTo, IsInputOf, lines_of}
+use Rattle.input_text.specs.Lines.{LeadTo, lines_of}
+use Rattle.input_text.specs.Texts.{IsInputOf}
 use Rattle.input_text.specs.Words.{IsWord, IsPart, IsCutInto, word_of, words_of_parts}
 use Rattle.input_text.specs.declared.fault.InputFault.{InputFault}
 use Rattle.input_text.specs.declared.fault.Wrong.TheVariants.{TooWide, Twice, TooMany}
@@ -29,13 +30,7 @@ use Rattle.input_text.specs.declared.said.Said.TheVariants as said
 use Rattle.input_text.specs.declared.word.Part.{Part}
 use Rattle.input_text.specs.declared.word.Word.{Word}
 use Rattle.input_text.specs.declared.word.Word.TheVariants.{Name, Number, Equals, Minus}
-
-both : (a b : Bool) → a && b ≡ true → (a ≡ true) × (b ≡ true)
-both true b h = (refl, h)
-both false b h = absurd cc
-
-and_true : (a b : Bool) → a ≡ true → b ≡ true → a && b ≡ true
-and_true a b h k = ap (λ x. x && b) h ∙ k
+use Rattle.input_text.proofs.KeyLemmas.{both, and_true}
 
 or_true : (a b : Bool) → a ≡ true → a || b ≡ true
 or_true a b h = ap (λ x. x || b) h
@@ -201,7 +196,7 @@ stays g n line (said.Subsegment kind size) fine h e = record {
 stays g n line (said.Scalar name value) fine h e = record { few = fine.few; once = fine.once; names = fine.names; segments = fine.segments; pieces = fine.pieces }
 stays g n line (said.Block name segments elements) fine h e = record { few = fine.few; once = fine.once; names = fine.names; segments = fine.segments; pieces = fine.pieces }
 
-lead_fine : (n : ℕ) (g end : Given) (lines : List (List ℕ)) → IsFine g → LeadTo n g lines end → IsFine end
+lead_fine : (n : ℕ) (g end : Given) (lines : List (List ℕ)) → IsFine g → LeadTo Says wrong added n g lines end → IsFine end
 lead_fine n g end [] fine h = subst IsFine (sym h) fine
 lead_fine n g end (line ∷ lines) fine h = lead_fine (n + 1) (added g n h.0) end lines (stays g n line h.0 fine h.1 h.2) h.3
 

@@ -1,7 +1,7 @@
 -- The words that are read of a line are its words, and its words are read; and one turn of the loop that reads them.
 use Rattle.std.proofs.Common.{◌≡◌, ℕ, zero, suc, ◌+◌, ◌-◌, ◌<◌, ◌≤◌, List, [], ◌∷◌, ◌++◌, take, drop, length, Option, Some, None, refl, sym, ap, ◌∙◌, subst, arith, append_assoc, append-nil}
 use Rattle.std.proofs.lemmas.List.{length-drop}
-use Rattle.input_text.specs.Reading.{part_at, taken, step, after_step, words_from, words_in}
+use Rattle.input_text.specs.Parts.{part_at, taken, step, after_step, words_from, words_in}
 use Rattle.input_text.specs.Words.{IsPart, IsCutInto, HasWords, word_of, words_of_parts}
 use Rattle.input_text.specs.declared.word.Part.{Part}
 use Rattle.input_text.specs.declared.word.Word.{Word}

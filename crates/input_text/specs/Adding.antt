@@ -125,7 +125,15 @@ is_past_limit g (said.Block name segments elements) = nat_le most_starts (length
 
 -- what is wrong with what a line says, the first of these; none where nothing is
 abbrev pub wrong : Given → Said → Option Wrong
-wrong g s = if is_too_wide s then Some TooWide else (if is_given g s then Some Twice else (if is_past_limit g s then Some TooMany else None))
+wrong g s =
+    if is_too_wide s then Some TooWide
+    else (if is_given g s then Some Twice
+    else (if is_past_limit g s then Some TooMany
+    else None))
+
+-- the start of a block with these values
+abbrev pub start_at : (line : ℕ) → (name segments : List ℕ) → List Value → Start
+start_at line name segments elements = record { line = line; name = name; segments = segments; elements = map number_of elements }
 
 -- with what a line says
 abbrev pub added : Given → (line : ℕ) → Said → Given
@@ -133,6 +141,6 @@ added g line Nothing = g
 added g line (said.Constant name value) = record g { constants = g.constants ++ (record { name = name; value = plain value }) ∷ [] }
 added g line (said.Segments kind lengths) = record g { segments = g.segments ++ (record { kind = kind; lengths = lengths }) ∷ [] }
 added g line (said.Subsegment kind size) = record g { pieces = g.pieces ++ (record { kind = kind; length = size }) ∷ [] }
-added g line (said.Scalar name value) = record g { scalars = g.scalars ++ (record { line = line; name = name; value = number_of value }) ∷ [] }
-added g line (said.Block name segments elements) =
-    record g { blocks = g.blocks ++ (record { line = line; name = name; segments = segments; elements = map number_of elements }) ∷ [] }
+added g line (said.Scalar name value) =
+    record g { scalars = g.scalars ++ (record { line = line; name = name; value = number_of value }) ∷ [] }
+added g line (said.Block name segments elements) = record g { blocks = g.blocks ++ start_at line name segments elements ∷ [] }

@@ -1,6 +1,9 @@
 pub mod Words
 pub mod Statements
 pub mod Adding
+pub mod Lines
 pub mod Texts
+pub mod Parts
 pub mod Reading
+pub mod LineReading
 pub mod Seen

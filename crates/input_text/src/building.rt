@@ -1,8 +1,8 @@
 //! What the lines so far give.
 
-ghost use Rattle.std.specs.Prelude.{◌≡◌, IfOk, OnOk, map};
+ghost use Rattle.std.specs.Prelude.{◌≡◌, IfOk, OnOk};
 ghost use Rattle.input_text.specs.Adding as given;
-ghost use Rattle.input_text.specs.Reading as spec;
+ghost use Rattle.input_text.specs.LineReading as spec;
 ghost use Rattle.input_text.specs.Seen.{IsTied, seen};
 ghost use Rattle.input_text.specs.declared.said.Said.TheVariants as said;
 
@@ -180,7 +180,7 @@ impl Building {
     }
 }
 
-// A line of a block.
+// A line of a block, with the numbers that its values are.
 fn block_line(
     alloc: Global,
     line: u32,
@@ -188,7 +188,7 @@ fn block_line(
     segments: Numbers,
     elements: Values,
 ) -> Result<BlockLine, AllocError>
-    ensures { IfOk result (λ b. given.start_of b ≡ record { line = line; name = name; segments = segments; elements = map given.number_of elements }) }
+    ensures { IfOk result (λ b. given.start_of b ≡ given.start_at line name segments elements) }
 {
     let elements = numbers_of(alloc, elements.as_slice())?;
     Ok(BlockLine {

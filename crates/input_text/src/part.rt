@@ -4,7 +4,7 @@ ghost use Rattle.std.specs.Prelude.{◌≡◌, ◌+◌, ◌≤◌, length, IfOk,
 ghost use Rattle.std.specs.List.{prefix_len};
 ghost use Rattle.sial_lexer.specs.Characters as characters;
 ghost use Rattle.sial_lexer.specs.Scanning.{value_in, value_after};
-ghost use Rattle.input_text.specs.Reading as spec;
+ghost use Rattle.input_text.specs.Parts as spec;
 
 use crate::word::{Part, Word};
 use sial_lexer::Beginning;
@@ -53,7 +53,7 @@ fn beginning_of(byte: u8) -> Beginning
     }
 }
 
-#[tactic(auto, unfolding(crate::specs::Reading::name_part))]
+#[tactic(auto, unfolding(crate::specs::Parts::name_part))]
 fn name_at(alloc: Global, rest: &[u8]) -> Result<Option<Part>, AllocError>
     ensures value { IfOk result (λ part. part ≡ spec.name_part rest.now) }
     ensures within { IfOk result (λ part. IfSome part (λ p. p.len ≤ length rest.now)) }
@@ -76,7 +76,7 @@ fn folded(alloc: Global, name: &[u8]) -> Result<Text, AllocError>
     Ok(Text::from_vec(name.to_ascii_lowercase(alloc)?))
 }
 
-#[tactic(auto, unfolding(crate::specs::Reading::number_part))]
+#[tactic(auto, unfolding(crate::specs::Parts::number_part))]
 fn number_at(rest: &[u8]) -> Option<Part>
     ensures value { result ≡ spec.number_part rest.now }
     ensures within { IfSome result (λ p. p.len ≤ length rest.now) }

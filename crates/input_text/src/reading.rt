@@ -4,14 +4,14 @@ ghost use Rattle.std.specs.Prelude.{◌≡◌, ◌+◌, ◌<◌, ◌≤◌, ◌^
 ghost use Rattle.sip_input.specs.Given.{IsInput};
 ghost use Rattle.sip_input.specs.declared.input.Input.{Input};
 ghost use Rattle.input_text.specs.Adding.{given_by};
-ghost use Rattle.input_text.specs.Reading as spec;
+ghost use Rattle.input_text.specs.LineReading as spec;
 ghost use Rattle.input_text.specs.Seen.{IsTied, seen};
 ghost use Rattle.input_text.specs.Texts.{IsCause, IsFaultOf, IsInputOf};
 ghost use Rattle.input_text.specs.declared.fault.InputFault.{InputFault};
 
 use crate::building::Building;
 use crate::fault::InputFault;
-use crate::part::before_line_feed;
+use crate::lines::first_line;
 use crate::saying::said_in;
 use crate::words::words_in;
 use sip_input::Input;
@@ -44,21 +44,12 @@ fn read(alloc: Global, text: &[u8]) -> Result<Input, InputFault>
     let mut rest = text;
     let mut line: u32 = 1;
     while !rest.is_empty() {
-        let (first, left) = rest.split_at(line_len(rest));
+        let (first, left) = first_line(rest);
         add_line(alloc, &mut building, line, first)?;
         rest = left;
         line += 1;
     }
     Ok(building.into_input())
-}
-
-// How many bytes the first line has, with its line feed.
-fn line_len(text: &[u8]) -> usize
-    ensures value { result ≡ spec.line_len text.now }
-    ensures within { result ≤ length text.now }
-{
-    let len = before_line_feed(text);
-    if len < text.len() { len + 1 } else { len }
 }
 
 // Adds what a line says.

@@ -1,7 +1,7 @@
 //! The words of a line.
 
 ghost use Rattle.std.specs.Prelude.{◌≡◌, ◌<◌, ◌≤◌, ◌^◌, length, option_map, IfOk, IfSome};
-ghost use Rattle.input_text.specs.Reading as spec;
+ghost use Rattle.input_text.specs.Parts as spec;
 
 use crate::part::part_at;
 use crate::word::{Part, Word};

@@ -10,8 +10,8 @@ use std::test::Fail;
 use table_compiler::compile;
 use table_file::decode;
 
-// The tables of a program's text.
-fn compiled(alloc: Global, text: &[u8]) -> Result<Tables, Fail> {
+/// The tables of a program's text.
+pub fn compiled(alloc: Global, text: &[u8]) -> Result<Tables, Fail> {
     let program = parse(alloc, text).ok().ok_or("it is a program")?;
     Ok(compile(alloc, &program).ok().ok_or("memory is there")?)
 }

@@ -10,4 +10,6 @@ mod files;
 #[cfg(test)]
 mod small;
 #[cfg(test)]
+mod verified;
+#[cfg(test)]
 mod worked;

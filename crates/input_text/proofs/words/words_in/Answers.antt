@@ -1,6 +1,6 @@
 use Rattle.std.proofs.Common.{◌≡◌, ℕ, List, Bor, None, Some, arith, sym, ap, ◌∙◌, false-eqb, true-eqb, length, ◌<◌}
 use Rattle.std.specs.Prelude.{option_map}
-use Rattle.input_text.specs.Reading as spec
+use Rattle.input_text.specs.Parts as spec
 use Rattle.input_text.proofs.WordLemmas.{moved, stopped, at_end, no_turns}
 use Rattle.input_text.proofs.words.words_in.Goals as goal
 use Rattle.input_text.proofs.words.words_in.Goals.{else-loop-turn-test, then-loop-turn-test+then-is_empty}

@@ -1,5 +1,5 @@
 use Rattle.std.proofs.Common.{◌≡◌, ◌-◌, length}
-use Rattle.input_text.specs.Reading as spec
+use Rattle.input_text.specs.Parts as spec
 use Rattle.input_text.proofs.words.words_in.Given as goal
 
 -- what is left is read as the whole

@@ -1,0 +1,12 @@
+pub mod LoopLemmas
+pub mod Closed
+pub mod StatementsFound
+pub mod BodiesFound
+pub mod NamesFound
+pub mod ProgramFound
+pub mod TablesFound
+pub mod StatementsAgain
+pub mod BodiesAgain
+pub mod NamesAgain
+pub mod TablesAgain
+pub mod Passed
