@@ -1,13 +1,13 @@
 -- What a file has that was cleared and added to.
-use Rattle.std.proofs.Common.{◌≡◌, ℕ, List, [], ◌++◌, Option, Some, None, Result, Ok, Err, OnOk, OnErr, option_map, refl, sym, ap, ◌∙◌, subst, inl, inr}
-use Rattle.sip_files.specs.Files.{Folder, Rose}
+use Rattle.std.proofs.Common.{◌≡◌, ◌≢◌, ℕ, ◌≤◌, List, [], ◌++◌, Option, Some, None, Result, Ok, Err, OnOk, OnErr, option_map, refl, sym, ap, ◌∙◌, subst, inl, inr, arith}
+use Rattle.sip_files.specs.Files.{CountsOnly, Folder, Rose}
 use Rattle.sip_files.specs.Sink.{Gains, GainsPart}
 use Rattle.sip_files.specs.Writing.{bytes_in, bytes_of, cleared}
 use Rattle.sip_files.specs.declared.call.Call.{Call}
-use Rattle.sip_files.specs.declared.call.Call.TheVariants.{Append}
+use Rattle.sip_files.specs.declared.call.Call.TheVariants.{Load, Clear, Append}
 use Rattle.sip_files.specs.declared.fault.Failed.{Failed}
 use Rattle.sip_files.proofs.WritingLemmas.{bytes_in-insert}
-use Rattle.sip_compile.specs.Filing.{Holds, HoldsPart, IsUnfiled}
+use Rattle.sip_compile.specs.Filing.{CountsFiles, CountsWrites, Holds, HoldsPart, IsUnfiled}
 
 -- bytes that are told are what the file has
 told_holds : (told : Option Folder) (name bytes : List ℕ) → bytes_of told name ≡ Some bytes → Holds told name bytes
@@ -55,3 +55,21 @@ pub unfiled :
 unfiled (Ok done) old mid new name bytes before between now is same rose part = tt
 unfiled (Err failed) old mid new name bytes before between now is same rose part =
     inr (subst (λ (n : ℕ). Rose n (now Append)) same rose, part_holds old mid new name bytes is part)
+
+-- Counts of loads alone.
+pub counts_loads : (before now : Call → ℕ) → CountsOnly Load before now → CountsFiles before now
+counts_loads before now only = record {
+  load = only.later;
+  clear = let same : now Clear ≡ before Clear = only.others Clear (λ e. absurd cc) in omega (arith, same);
+  append = let same : now Append ≡ before Append = only.others Append (λ e. absurd cc) in omega (arith, same);
+  others = λ other load clear append. only.others other load;
+}
+
+-- Counts of loads, and then of writes.
+pub counts_both : (before between now : Call → ℕ) → CountsOnly Load before between → CountsWrites between now → CountsFiles before now
+counts_both before between now only writes = record {
+  load = let same : now Load ≡ between Load = writes.others Load (λ e. absurd cc) (λ e. absurd cc) in omega (arith, same, only.later);
+  clear = let same : between Clear ≡ before Clear = only.others Clear (λ e. absurd cc) in omega (arith, same, writes.clear);
+  append = let same : between Append ≡ before Append = only.others Append (λ e. absurd cc) in omega (arith, same, writes.append);
+  others = λ other load clear append. writes.others other clear append ∙ only.others other load;
+}

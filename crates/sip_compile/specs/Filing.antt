@@ -3,7 +3,7 @@ use Rattle.std.specs.Prelude.{◌≡◌, ◌≢◌, ◌⊎◌, ℕ, ◌≤◌, L
 use Rattle.sip_files.specs.Files.{Folder, Rose, IsPrefix}
 use Rattle.sip_files.specs.Writing.{bytes_of}
 use Rattle.sip_files.specs.declared.call.Call.{Call}
-use Rattle.sip_files.specs.declared.call.Call.TheVariants.{Clear, Append}
+use Rattle.sip_files.specs.declared.call.Call.TheVariants.{Load, Clear, Append}
 
 -- a file has exactly these bytes
 abbrev pub Holds : Option Folder → (name bytes : List ℕ) → Type 0
@@ -23,3 +23,10 @@ pub record CountsWrites (before now : Call → ℕ) : Type 0 where
   pub clear : before Clear ≤ now Clear
   pub append : before Append ≤ now Append
   pub others : (other : Call) → other ≢ Clear → other ≢ Append → now other ≡ before other
+
+-- no count falls, and none but those of loading, clearing and adding changes
+pub record CountsFiles (before now : Call → ℕ) : Type 0 where
+  pub load : before Load ≤ now Load
+  pub clear : before Clear ≤ now Clear
+  pub append : before Append ≤ now Append
+  pub others : (other : Call) → other ≢ Load → other ≢ Clear → other ≢ Append → now other ≡ before other

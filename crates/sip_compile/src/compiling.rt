@@ -4,6 +4,7 @@ ghost use Rattle.std.specs.Prelude.{◌≡◌, OnOk, IfErr};
 ghost use Rattle.sip_files.specs.Loading.{Loading};
 ghost use Rattle.sip_files.specs.Writing.{others_of};
 ghost use Rattle.sip_compile.specs.Compiling.{Compiles, FailsToCompile};
+ghost use Rattle.sip_compile.specs.Filing.{CountsFiles};
 
 use crate::fault::CompileFault;
 use crate::filing::file_tables;
@@ -13,6 +14,7 @@ use std::alloc::Global;
 use table_compiler::compile;
 
 /// Loads a program, and writes the file of its tables in place of what its name had.
+#[tactic(auto, using(crate::proofs::FilingLemmas::counts_loads, crate::proofs::FilingLemmas::counts_both))]
 pub fn compile_program<F: Files>(
     alloc: Global,
     files: &mut F,
@@ -26,6 +28,7 @@ pub fn compile_program<F: Files>(
 
     // Other files stay.
     ensures others { others_of (F.told files.new) table.now ≡ others_of (F.told files.old) table.now }
+    ensures counts { CountsFiles (F.faults files.old) (F.faults files.new) }
     ensures loans { F.loans files.new ≡ F.loans files.old }
 {
     let ruled = match load_program(alloc, files, program) {

@@ -1,5 +1,8 @@
+mod AskedLemmas
+mod CompileLemmas
 mod PerformLemmas
 mod ReadLemmas
-mod RefusedLemmas
+mod RunLemmas
 mod SaysLemmas
+mod TopLemmas
 mod WroteLemmas

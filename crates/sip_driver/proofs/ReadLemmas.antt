@@ -6,10 +6,8 @@ use Rattle.sip_files.specs.Loading.{Wanted, Tells, Loading}
 use Rattle.sip_files.specs.declared.call.Call.{Call}
 use Rattle.sip_files.specs.declared.fault.LoadFault.{LoadFault}
 use Rattle.sip_grant.specs.Loads.{IsUnreadable}
-use Rattle.sip_grant.specs.Names.{Names, program_of, input_of}
+use Rattle.sip_grant.specs.Names.{Names, program_file, input_of}
 use Rattle.sip_grant.specs.Refusals.{ForProgram, ForTexts}
-use Rattle.sip_driver.specs.Asked.{asked}
-use Rattle.sip_driver.specs.Headline.{RefusesUnreadable}
 
 -- a file that was read
 readable : (told : Option Folder) (file : Wanted) (text : List ℕ) → Tells told file (Ok tt) text → IsUnreadable told file → ⊥
@@ -28,43 +26,22 @@ module _
     (old new : F)
     (names : Names) where
   -- a program that was read
-  pub program_readable : (mid : F) (text : List ℕ) → Loading gives told faults overlong old (program_of names) (Ok tt) text mid → IsUnreadable (told old) (program_of names) → ⊥
-  program_readable mid text load unreadable = readable (told old) (program_of names) text load.1 unreadable
+  pub program_readable : (mid : F) (text : List ℕ) → Loading gives told faults overlong old (program_file names.program) (Ok tt) text mid → IsUnreadable (told old) (program_file names.program) → ⊥
+  program_readable mid text load unreadable = readable (told old) (program_file names.program) text load.1 unreadable
 
   -- a program that was read behind which nothing was loaded
-  pub program_was_read : (fact : List ℕ → Type 0) → ForProgram (Loading gives told faults overlong) old new names fact → IsUnreadable (told old) (program_of names) → ⊥
+  pub program_was_read : (fact : List ℕ → Type 0) → ForProgram (Loading gives told faults overlong) old new names.program fact → IsUnreadable (told old) (program_file names.program) → ⊥
   program_was_read fact (text, load, holds) unreadable = program_readable new text load unreadable
 
   -- an input that was read behind the program
-  input_readable : (mid next : F) (program input : List ℕ) → Loading gives told faults overlong old (program_of names) (Ok tt) program mid → Loading gives told faults overlong mid (input_of names) (Ok tt) input next → IsUnreadable (told old) (input_of names) → ⊥
+  input_readable : (mid next : F) (program input : List ℕ) → Loading gives told faults overlong old (program_file names.program) (Ok tt) program mid → Loading gives told faults overlong mid (input_of names) (Ok tt) input next → IsUnreadable (told old) (input_of names) → ⊥
   input_readable mid next program input first second unreadable =
       readable (told mid) (input_of names) input second.1 (subst (λ (t : Option Folder). IsUnreadable t (input_of names)) (sym first.2) unreadable)
 
   -- a program of two texts that were read
-  pub program_of_texts : (fact : List ℕ → List ℕ → Type 0) → ForTexts (Loading gives told faults overlong) old new names fact → IsUnreadable (told old) (program_of names) → ⊥
+  pub program_of_texts : (fact : List ℕ → List ℕ → Type 0) → ForTexts (Loading gives told faults overlong) old new names fact → IsUnreadable (told old) (program_file names.program) → ⊥
   program_of_texts fact (program, input, (mid, first, holds, rest), is) unreadable = program_readable mid program first unreadable
 
   -- their input
   pub input_of_texts : (fact : List ℕ → List ℕ → Type 0) → ForTexts (Loading gives told faults overlong) old new names fact → IsUnreadable (told old) (input_of names) → ⊥
   input_of_texts fact (program, input, (mid, first, holds, (next, second, any, same)), is) unreadable = input_readable mid next program input first second unreadable
-
-  -- what follows of files that can't be read, for the names that the words have
-  pub for_named : (words : List (String Global)) (status : ℕ) (unparsed unruled : Type 0)
-      → asked words ≡ Some names
-      → (IsUnreadable (told old) (program_of names) → (status ≡ 2) ⊎ (status ≡ 13))
-      → (IsUnreadable (told old) (input_of names)
-      → (status ≡ 2) ⊎ ((status ≡ 13) ⊎ (((status ≡ 3) × unparsed) ⊎ ((status ≡ 4) × unruled))))
-      → RefusesUnreadable status words (told old) unparsed unruled
-  for_named words status unparsed unruled is program input other named =
-      let same : names ≡ other = cc in (
-        λ u. program (subst (λ (n : Names). IsUnreadable (told old) (program_of n)) (sym same) u),
-        λ u. input (subst (λ (n : Names). IsUnreadable (told old) (input_of n)) (sym same) u),
-      )
-
-  -- where both files were read, none is one that can't be
-  pub both_readable : (words : List (String Global)) (status : ℕ) (unparsed unruled : Type 0) (fact : List ℕ → List ℕ → Type 0)
-      → asked words ≡ Some names
-      → ForTexts (Loading gives told faults overlong) old new names fact
-      → RefusesUnreadable status words (told old) unparsed unruled
-  both_readable words status unparsed unruled fact is texts =
-      for_named words status unparsed unruled is (λ u. absurd (program_of_texts fact texts u)) (λ u. absurd (input_of_texts fact texts u))

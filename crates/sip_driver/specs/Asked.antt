@@ -1,21 +1,41 @@
--- What the words of a call ask for.
-use Rattle.std.specs.Prelude.{List, [], ◌∷◌, Option, Some, None, String, string_bytes, codes, Bool, true, false}
-use Rattle.std.specs.Str.{bytes_eq}
+-- What the words of a call ask for, of what the program does today.
+use Rattle.std.specs.Prelude.{◌≡◌, ◌⊎◌, ℕ, List, None, String}
 use Rattle.std.specs.declared.alloc.Global.{Global}
-use Rattle.sip_grant.specs.Names.{Names, named}
+use Rattle.sip_grant.specs.Names.{Names}
+use Rattle.sip_words.specs.Asking.{IsRequest, setup_of, running_of}
+use Rattle.sip_words.specs.Plain.{Spells}
+use Rattle.sip_words.specs.Requests.{Request, Running, Setup, compile, run}
+use Rattle.sip_words.specs.Seen.{texts}
 
--- the names behind the command, where it is `run`
-abbrev pub names_if : Bool → Names → Option Names
-names_if true names = Some names
-names_if false names = None
+-- the machine and the course of a run where no option says anything of them
+abbrev pub usual_setup : Setup
+usual_setup = setup_of (λ name. None)
 
--- four words with `run` second name two files
-abbrev pub asked : List (String Global) → Option Names
-asked (name ∷ command ∷ program ∷ input ∷ []) =
-    names_if (bytes_eq (string_bytes command) (codes "run")) (named (string_bytes program) (string_bytes input))
-asked _ = None
+abbrev pub usual_running : Running
+usual_running = running_of (λ name. None)
 
--- a fact about the files that the words name, which holds of no words that name none
-abbrev pub ForNames : Option Names → (Names → Type 0) → Type 0
-ForNames None fact = ⊥
-ForNames (Some names) fact = fact names
+-- a run without options
+abbrev pub run_of : Names → Request
+run_of names = run names.program names.input usual_setup usual_running
+
+-- words ask for a request: a plain spelling for its own, and other words for one that some command asks for
+pub record AskFor (words : List (String Global)) (request : Request) : Type 0 where
+  pub plain : (other : Request) → Spells (texts words) other → other ≡ request
+  pub within : IsRequest request
+
+-- the words ask for a run of files of which this holds
+abbrev pub ForRun : List (String Global) → (Names → Type 0) → Type 0
+ForRun words fact = (names : Names) × AskFor words (run_of names) × fact names
+
+-- the words ask for a program's table, and this holds of the names of both
+abbrev pub ForCompile : List (String Global) → ((program table : List ℕ) → Type 0) → Type 0
+ForCompile words fact = (program : List ℕ) × (table : List ℕ) × AskFor words (compile program table) × fact program table
+
+-- the words ask for one of them, and this holds of the program's name
+abbrev pub ForEither : List (String Global) → ((program : List ℕ) → Type 0) → Type 0
+ForEither words fact = ForRun words (λ names. fact names.program) ⊎ ForCompile words (λ program table. fact program)
+
+-- the words spell nothing plainly that the program does today
+pub record SpellNothing (words : List (String Global)) : Type 0 where
+  pub no_run : (names : Names) → Spells (texts words) (run_of names) → ⊥
+  pub no_compile : (program table : List ℕ) → Spells (texts words) (compile program table) → ⊥

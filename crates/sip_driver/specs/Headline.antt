@@ -1,34 +1,42 @@
 -- What `sip` promises, by the status that it answers, in the order of the README's table; the clauses of `sip` cite these parts.
 --
 -- `words` are those of the call, and `load` is what one load of its files is. `old` and `new` are these files, `before` and
--- `after` the output, each before and after the call; `written` and `faults` are what a sink tells of its bytes and counts of its faults.
-use Rattle.std.specs.Prelude.{◌≡◌, ◌↔◌, ℕ, ◌⊎◌, List, Option, None, Some, String}
+-- `after` the output, each before and after the call; `told` and `counts` are what files tell of their bytes and counts of their
+-- faults, `written` and `faults` the same of a sink. `says` is what a line that went out to the other sink is.
+use Rattle.std.specs.Prelude.{◌≡◌, ℕ, ◌⊎◌, List, Option, String}
 use Rattle.std.specs.declared.alloc.Global.{Global}
 use Rattle.index_spaces.specs.declared.fault.SpaceFault.{SpaceFault}
 use Rattle.input_text.specs.declared.fault.InputFault.{InputFault}
 use Rattle.scalar_discipline.specs.declared.fault.RuleFault.{RuleFault}
 use Rattle.shape_check.specs.declared.fault.ShapeFault.{ShapeFault}
 use Rattle.sial_parser.specs.declared.fault.ParseFault.{ParseFault}
+use Rattle.sip_compile.specs.Compiling.{Compiles, ForTable}
+use Rattle.sip_compile.specs.Filing.{IsUnfiled}
 use Rattle.sip_files.specs.Files.{Folder, Rose}
 use Rattle.sip_files.specs.Loading.{LoadOf}
+use Rattle.sip_files.specs.Writing.{others_of}
+use Rattle.sip_files.specs.declared.call.Call.{Call}
 use Rattle.sip_grant.specs.Granting.{HasBadInput, Misfits}
-use Rattle.sip_grant.specs.Loads.{IsFirstUnread, RanOut, IsUnreadable}
-use Rattle.sip_grant.specs.Names.{Names, program_of, input_of, files_of}
+use Rattle.sip_grant.specs.Loads.{IsFirstUnread, IsUnread, IsUnreadable}
+use Rattle.sip_grant.specs.Names.{Names, program_file, input_of, files_of}
 use Rattle.sip_grant.specs.Programs.{BreaksShape, BreaksSides}
-use Rattle.sip_grant.specs.Refusals.{ForProgram, ForTexts}
+use Rattle.sip_grant.specs.Refusals.{ForProgram, ForTexts, Refuses, RefusesProgram}
 use Rattle.sip_grant.specs.Syntax.{IsFaultOf}
-use Rattle.sip_driver.specs.Asked.{asked, ForNames}
+use Rattle.sip_grant.specs.declared.refusal.Refusal.TheVariants.{OutOfMemory}
+use Rattle.sip_words.specs.Plain.{Spells}
+use Rattle.sip_words.specs.Seen.{texts}
+use Rattle.sip_driver.specs.Asked.{ForCompile, ForEither, ForRun, SpellNothing, run_of}
 use Rattle.sip_driver.specs.Prints.{Prints, PrintsPart, IsNotFirst}
-use Rattle.sip_driver.specs.Says.{read_line, syntax_line, shape_line, side_line, input_line, space_line, first_line}
+use Rattle.sip_driver.specs.Says.{read_line, syntax_line, shape_line, side_line, input_line, space_line, first_line, line_of, write_line}
 
--- the program was read, nothing else was loaded, and its text has this property
-abbrev pub Program : {F : Type 0} → List (String Global) → LoadOf F → (old new : F) → (List ℕ → Type 0) → Type 0
-Program words load old new fact = ForNames (asked words) (λ names. ForProgram load old new names fact)
-
--- both files were read, the program and then its input, nothing else was loaded, the program keeps the rules, and both texts have this
--- property
+-- the words ask for a run; both files were read, the program and then its input, nothing else was loaded, the program keeps the rules,
+-- and both texts have this property
 abbrev pub Texts : {F : Type 0} → List (String Global) → LoadOf F → (old new : F) → (List ℕ → List ℕ → Type 0) → Type 0
-Texts words load old new fact = ForNames (asked words) (λ names. ForTexts load old new names fact)
+Texts words load old new fact = ForRun words (λ names. ForTexts load old new names fact)
+
+-- the words ask for something to do with a program; it was read, nothing else was loaded, and its text has this property
+abbrev pub Program : {F : Type 0} → List (String Global) → LoadOf F → (old new : F) → (List ℕ → Type 0) → Type 0
+Program words load old new fact = ForEither words (λ program. ForProgram load old new program fact)
 
 -- 0: both files were read, they are a program of the first profile and an input that the rules grant, and the output gained exactly the
 -- lines that the program's sequential meaning prints
@@ -36,15 +44,29 @@ abbrev pub Done :
     {F K : Type 0} → List (String Global) → LoadOf F → (old new : F) → (written : K → Option (List ℕ)) → (before after : K) → Type 0
 Done words load old new written before after = Texts words load old new (Prints (written before) (written after))
 
--- 1: exactly where the words aren't a command
-abbrev pub IsUsage : (status : ℕ) → List (String Global) → Type 0
-IsUsage status words = (status ≡ 1) ↔ (asked words ≡ None)
+-- 0 as well: the program was read, it keeps the rules, and its table's file has exactly the bytes of its tables; no output
+abbrev pub Compiled :
+    {F K : Type 0}
+    → List (String Global)
+    → LoadOf F
+    → (told : F → Option Folder)
+    → (old new : F)
+    → (written : K → Option (List ℕ))
+    → (before after : K)
+    → Type 0
+Compiled words load told old new written before after =
+    ForCompile words (λ program table. Compiles load told old new program table) × (written after ≡ written before)
+
+-- 1: only where the words spell nothing plainly that the program does
+abbrev pub IsUsage : List (String Global) → Type 0
+IsUsage words = SpellNothing words
 
 -- 2: the line names the first file that wasn't read, behind which none was loaded; the input is loaded only behind a program that keeps
 -- the rules
 abbrev pub Unread : {F : Type 0} → List (String Global) → LoadOf F → (old new : F) → (says : List ℕ → Type 0) → Type 0
 Unread words load old new says =
-    ForNames (asked words) (λ names. (name : List ℕ) × IsFirstUnread load old new (files_of names) name × says (read_line name))
+    ForRun words (λ names. (name : List ℕ) × IsFirstUnread load old new (files_of names) name × says (read_line name))
+    ⊎ ForCompile words (λ program table. IsUnread load old new (program_file program) × says (read_line program))
 
 -- 3: the program's text has a fault, its first one, which the line tells with its own line
 abbrev pub Unparsed : {F : Type 0} → List (String Global) → LoadOf F → (old new : F) → (says : List ℕ → Type 0) → Type 0
@@ -80,8 +102,8 @@ Unfit words load old new says =
 abbrev pub RefusesUnreadable : (status : ℕ) → List (String Global) → Option Folder → (unparsed unruled : Type 0) → Type 0
 RefusesUnreadable status words told unparsed unruled =
     (names : Names)
-    → asked words ≡ Some names
-    → (IsUnreadable told (program_of names) → (status ≡ 2) ⊎ (status ≡ 13))
+    → Spells (texts words) (run_of names)
+    → (IsUnreadable told (program_file names.program) → (status ≡ 2) ⊎ (status ≡ 13))
     × (IsUnreadable told (input_of names)
     → (status ≡ 2) ⊎ ((status ≡ 13) ⊎ (((status ≡ 3) × unparsed) ⊎ ((status ≡ 4) × unruled))))
 
@@ -94,24 +116,45 @@ abbrev pub NotWritten :
     → (written : K → Option (List ℕ))
     → (faults : K → ℕ)
     → (before after : K)
+    → (says : List ℕ → Type 0)
     → Type 0
-NotWritten words load old new written faults before after =
-    Rose (faults before) (faults after) × Texts words load old new (PrintsPart (written before) (written after))
+NotWritten words load old new written faults before after says =
+    Rose (faults before) (faults after) × Texts words load old new (PrintsPart (written before) (written after)) × says (line_of 10)
 
--- memory ran out: before the program ran, with the output as it was; or while it ran, with a first part of the lines
-abbrev pub Starved :
-    {F K : Type 0} → LoadOf F → (old new : F) → Names → (written : K → Option (List ℕ)) → (before after : K) → Type 0
-Starved load old new names written before after =
-    (RanOut load old new (files_of names) × (written after ≡ written before))
-    ⊎ ForTexts load old new names (PrintsPart (written before) (written after))
+-- 10 as well: the program was read and keeps the rules, and its table's file couldn't be cleared, or has a first part of the table, as the
+-- files' counts say; no output
+abbrev pub NotFiled :
+    {F K : Type 0}
+    → List (String Global)
+    → LoadOf F
+    → (told : F → Option Folder)
+    → (counts : F → Call → ℕ)
+    → (old new : F)
+    → (written : K → Option (List ℕ))
+    → (before after : K)
+    → (says : List ℕ → Type 0)
+    → Type 0
+NotFiled {F} words load told counts old new written before after says =
+    ForCompile words (λ program table.
+    (mid : F) × ForTable load old mid program (λ whole. IsUnfiled (told new) table whole (counts mid) (counts new)) × says (write_line table))
+    × (written after ≡ written before)
 
--- 13: for want of memory
+-- 13: memory ran out: before any file was loaded; in or behind a load, with the output as it was; while a program ran, with a first part
+-- of the lines; or before its table's file was touched
 abbrev pub NoMemory :
     {F K : Type 0} → List (String Global) → LoadOf F → (old new : F) → (written : K → Option (List ℕ)) → (before after : K) → Type 0
-NoMemory words load old new written before after = ForNames (asked words) (λ names. Starved load old new names written before after)
+NoMemory words load old new written before after =
+    ((new ≡ old) × (written after ≡ written before))
+    ⊎ ((ForRun words (λ names. Refuses load old new names OutOfMemory) × (written after ≡ written before))
+    ⊎ (Texts words load old new (PrintsPart (written before) (written after))
+    ⊎ (ForCompile words (λ program table. RefusesProgram load old new program OutOfMemory) × (written after ≡ written before))))
 
 -- there is no other status
 abbrev pub IsAnswer : (status : ℕ) → Type 0
 IsAnswer status =
     (status ≡ 0)
     ⊎ ((status ≡ 1) ⊎ ((status ≡ 2) ⊎ ((status ≡ 3) ⊎ ((status ≡ 4) ⊎ ((status ≡ 5) ⊎ ((status ≡ 10) ⊎ (status ≡ 13)))))))
+
+-- files tell what they told, unless the words ask for a table: then its file alone may have changed
+abbrev pub KeepsOthers : List (String Global) → (old new : Option Folder) → Type 0
+KeepsOthers words old new = (new ≡ old) ⊎ ForCompile words (λ program table. others_of new table ≡ others_of old table)

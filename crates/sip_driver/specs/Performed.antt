@@ -1,19 +1,31 @@
 -- What a call answers, after which loads and with which output.
-use Rattle.std.specs.Prelude.{◌≡◌, ℕ, List, Option}
+use Rattle.std.specs.Prelude.{◌≡◌, ◌≢◌, ◌⊎◌, ℕ, List, Option}
 use Rattle.first_profile.specs.FirstTree.{IsFirstTree}
+use Rattle.index_spaces.specs.declared.fault.SpaceFault.{SpaceFault}
+use Rattle.input_text.specs.declared.fault.InputFault.{InputFault}
+use Rattle.scalar_discipline.specs.declared.fault.RuleFault.{RuleFault}
+use Rattle.shape_check.specs.declared.fault.ShapeFault.{ShapeFault}
+use Rattle.sial_parser.specs.declared.fault.ParseFault.{ParseFault}
 use Rattle.sial_syntax.specs.Tree.{tree}
-use Rattle.sip_files.specs.Files.{Rose}
+use Rattle.sip_compile.specs.Compiling.{Compiles, ForTable}
+use Rattle.sip_compile.specs.Filing.{IsUnfiled}
+use Rattle.sip_files.specs.Files.{Folder, Rose}
 use Rattle.sip_files.specs.Loading.{LoadOf}
 use Rattle.sip_files.specs.Sink.{Gains, GainsPart}
-use Rattle.sip_grant.specs.Names.{Names}
-use Rattle.sip_grant.specs.Refusals.{ForTexts, Refuses}
+use Rattle.sip_files.specs.declared.call.Call.{Call}
+use Rattle.sip_grant.specs.Granting.{HasBadInput, Misfits}
+use Rattle.sip_grant.specs.Loads.{IsFirstUnread, IsUnread, IsUnreadable}
+use Rattle.sip_grant.specs.Names.{Names, program_file, input_of, files_of}
+use Rattle.sip_grant.specs.Programs.{BreaksShape, BreaksSides}
+use Rattle.sip_grant.specs.Refusals.{ForProgram, ForTexts, Refuses, RefusesProgram}
+use Rattle.sip_grant.specs.Syntax.{IsFaultOf}
 use Rattle.sip_grant.specs.declared.refusal.Refusal.{Refusal}
 use Rattle.sip_grant.specs.declared.refusal.Refusal.TheVariants as no
 use Rattle.sip_setting.specs.Printing.{printed_text}
 use Rattle.sip_setting.specs.Seen.{setting_of}
 use Rattle.sip_setting.specs.declared.granted.Granted.{Granted}
 use Rattle.sip_driver.specs.Prints.{Prints, PrintsPart, IsNotFirst}
-use Rattle.sip_driver.specs.Says.{read_line, syntax_line, shape_line, side_line, input_line, space_line, line_of}
+use Rattle.sip_driver.specs.Says.{read_line, write_line, syntax_line, shape_line, side_line, input_line, space_line, first_line, line_of}
 use Rattle.sip_driver.specs.declared.answer.Answer.{Answer}
 use Rattle.sip_driver.specs.declared.answer.Answer.TheVariants.{Done, Refused, NotFirst, NotWritten, OutOfMemory}
 
@@ -73,3 +85,65 @@ Runs job written faults before after NotWritten =
     × GainsPart (written before) (written after) (printed_text (setting_of job))
 Runs job written faults before after OutOfMemory =
     IsFirstTree (tree job.program) × GainsPart (written before) (written after) (printed_text (setting_of job))
+
+-- what the status of a run says, by the files' names
+pub record RunAnswers
+    {F K : Type 0}
+    (load : LoadOf F)
+    (told : Option Folder)
+    (old new : F)
+    (names : Names)
+    (written : K → Option (List ℕ))
+    (faults : K → ℕ)
+    (before after : K)
+    (says : List ℕ → Type 0)
+    (status : ℕ) : Type 0 where
+  pub done : status ≡ 0 → ForTexts load old new names (Prints (written before) (written after))
+  pub unread : status ≡ 2 → (name : List ℕ) × IsFirstUnread load old new (files_of names) name × says (read_line name)
+  pub syntax : status ≡ 3
+      → ((fault : ParseFault) × ForProgram load old new names.program (λ program. IsFaultOf program fault) × says (syntax_line fault))
+      ⊎ (ForTexts load old new names IsNotFirst × says first_line)
+  pub rule : status ≡ 4
+      → ((fault : ShapeFault) × ForProgram load old new names.program (λ program. BreaksShape program fault) × says (shape_line fault))
+      ⊎ ((fault : RuleFault) × ForProgram load old new names.program (λ program. BreaksSides program fault) × says (side_line fault))
+  pub input : status ≡ 5
+      → ((fault : InputFault) × ForTexts load old new names (λ program input. HasBadInput program input fault) × says (input_line fault))
+      ⊎ ((fault : SpaceFault) × ForTexts load old new names (λ program input. Misfits program input fault) × says (space_line fault))
+  pub not_written : status ≡ 10
+      → Rose (faults before) (faults after) × ForTexts load old new names (PrintsPart (written before) (written after)) × says (line_of 10)
+  pub memory : status ≡ 13
+      → (Refuses load old new names no.OutOfMemory × (written after ≡ written before))
+      ⊎ ForTexts load old new names (PrintsPart (written before) (written after))
+  pub line : (status ≡ 0) ⊎ (status ≡ 13) → says (line_of status)
+  pub program_unreadable : IsUnreadable told (program_file names.program) → (status ≡ 2) ⊎ (status ≡ 13)
+  pub input_unreadable : IsUnreadable told (input_of names)
+      → (status ≡ 2)
+      ⊎ ((status ≡ 13)
+      ⊎ (((status ≡ 3) × ((fault : ParseFault) × ForProgram load old new names.program (λ program. IsFaultOf program fault) × says (syntax_line fault)))
+      ⊎ ((status ≡ 4)
+      × (((fault : ShapeFault) × ForProgram load old new names.program (λ program. BreaksShape program fault) × says (shape_line fault))
+      ⊎ ((fault : RuleFault) × ForProgram load old new names.program (λ program. BreaksSides program fault) × says (side_line fault))))))
+  pub answers : (status ≡ 0) ⊎ ((status ≡ 2) ⊎ ((status ≡ 3) ⊎ ((status ≡ 4) ⊎ ((status ≡ 5) ⊎ ((status ≡ 10) ⊎ (status ≡ 13))))))
+  pub kept : status ≢ 0 → status ≢ 10 → status ≢ 13 → written after ≡ written before
+
+-- what the status of a compilation says, by the files' names
+pub record CompileAnswers
+    {F : Type 0}
+    (load : LoadOf F)
+    (told : F → Option Folder)
+    (counts : F → Call → ℕ)
+    (old new : F)
+    (program table : List ℕ)
+    (says : List ℕ → Type 0)
+    (status : ℕ) : Type 0 where
+  pub done : status ≡ 0 → Compiles load told old new program table
+  pub unread : status ≡ 2 → IsUnread load old new (program_file program) × says (read_line program)
+  pub syntax : status ≡ 3 → (fault : ParseFault) × ForProgram load old new program (λ text. IsFaultOf text fault) × says (syntax_line fault)
+  pub rule : status ≡ 4
+      → ((fault : ShapeFault) × ForProgram load old new program (λ text. BreaksShape text fault) × says (shape_line fault))
+      ⊎ ((fault : RuleFault) × ForProgram load old new program (λ text. BreaksSides text fault) × says (side_line fault))
+  pub not_filed : status ≡ 10
+      → (mid : F) × ForTable load old mid program (λ whole. IsUnfiled (told new) table whole (counts mid) (counts new)) × says (write_line table)
+  pub memory : status ≡ 13 → RefusesProgram load old new program no.OutOfMemory
+  pub line : (status ≡ 0) ⊎ (status ≡ 13) → says (line_of status)
+  pub answers : (status ≡ 0) ⊎ ((status ≡ 2) ⊎ ((status ≡ 3) ⊎ ((status ≡ 4) ⊎ ((status ≡ 10) ⊎ (status ≡ 13)))))

@@ -13,6 +13,10 @@ use Rattle.sip_driver.specs.Kinds.{Told, syntax_told, shape_told, side_told, inp
 abbrev pub read_line : (name : List ℕ) → List ℕ
 read_line name = codes "sip: read " ++ (name ++ (10 ∷ []))
 
+-- the line on a file that wasn't written
+abbrev pub write_line : (name : List ℕ) → List ℕ
+write_line name = codes "sip: write " ++ (name ++ (10 ∷ []))
+
 -- a line that begins so and tells a fault's line and kind
 abbrev pub told_line : (front : List ℕ) → Told → List ℕ
 told_line front told = front ++ (decimal told.line ++ (codes ": " ++ (told.kind ++ (10 ∷ []))))

@@ -2,10 +2,12 @@
 #![tactic(auto)]
 
 mod answer;
+mod compiling;
 mod kinds;
 mod lines;
 mod perform;
 mod refuse;
+mod running;
 mod say;
 mod status;
 mod top;

@@ -3,6 +3,7 @@
 ghost use Rattle.std.specs.Prelude.{[], ◌∷◌, ◌++◌, decimal, codes};
 ghost use Rattle.sip_files.specs.Sink.{Wrote};
 ghost use Rattle.sip_driver.specs.Kinds.{space_kind_of};
+ghost use Rattle.sip_driver.specs.Says as spec;
 ghost use Rattle.sip_driver.specs.Says.{read_line, space_line, told_line};
 ghost use Rattle.sip_driver.specs.Seen.{told_of};
 
@@ -16,6 +17,16 @@ pub fn write_unread<K: Sink>(err: &mut K, name: &[u8]) -> Result<(), Failed>
     ensures { Wrote (K.written err.old) (K.written err.new) (K.faults err.old) (K.faults err.new) (K.kept err.old) (K.kept err.new) (read_line name.now) result }
 {
     match err.write(b"sip: read ") {
+        Ok(()) => write_line(err, name),
+        Err(failed) => Err(failed),
+    }
+}
+
+/// `sip: write NAME`
+pub fn write_unwritten<K: Sink>(err: &mut K, name: &[u8]) -> Result<(), Failed>
+    ensures { Wrote (K.written err.old) (K.written err.new) (K.faults err.old) (K.faults err.new) (K.kept err.old) (K.kept err.new) (spec.write_line name.now) result }
+{
+    match err.write(b"sip: write ") {
         Ok(()) => write_line(err, name),
         Err(failed) => Err(failed),
     }

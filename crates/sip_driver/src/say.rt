@@ -1,11 +1,11 @@
 //! The lines that refusals write.
 
 ghost use Rattle.std.specs.Prelude.{◌≡◌, ◌≤◌};
-ghost use Rattle.sip_driver.specs.Says.{Says, read_line, space_line, told_line};
+ghost use Rattle.sip_driver.specs.Says.{Says, read_line, space_line, told_line, write_line};
 ghost use Rattle.sip_driver.specs.Seen.{told_of};
 
 use crate::kinds::Told;
-use crate::lines::{write_space, write_told, write_unread};
+use crate::lines::{write_space, write_told, write_unread, write_unwritten};
 use index_spaces::SpaceFault;
 use sip_files::Sink;
 
@@ -25,6 +25,15 @@ pub fn say_unread<K: Sink>(err: &mut K, name: &str)
     ensures kept { K.kept err.new ≡ K.kept err.old }
 {
     let _ = write_unread(err, name.as_bytes());
+}
+
+/// Writes the line on a file that wasn't written.
+pub fn say_unwritten<K: Sink>(err: &mut K, name: &str)
+    ensures says { Says K.written K.faults err.old err.new (write_line name.now) }
+    ensures never_falls { K.faults err.old ≤ K.faults err.new }
+    ensures kept { K.kept err.new ≡ K.kept err.old }
+{
+    let _ = write_unwritten(err, name.as_bytes());
 }
 
 /// Writes a line that begins so and tells a fault's line and kind.
