@@ -89,7 +89,10 @@ fn one_wrong_number_in_the_code_is_refused(rt: HostRuntime) -> Result<(), Fail> 
         let changed = decode(rt.alloc(), bytes.as_slice())
             .ok()
             .ok_or("it is a file")?;
-        assert_eq!(rt; unflatten(rt.alloc(), &changed).err(), Some(VerifyFault::NotAProgram));
+        assert_eq!(rt;
+            unflatten(rt.alloc(), &changed).err(),
+            Some(VerifyFault::NotAProgram)
+        );
     }
     Ok(())
 }

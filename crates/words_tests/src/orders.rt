@@ -36,10 +36,13 @@ fn in_order(
 ) -> Result<String, AllocError> {
     let mut left = Vec::from_slice(alloc, options)?;
     let mut words = String::from_str(alloc, command)?;
-    while !left.is_empty() {
-        let option = left.remove(order % left.len());
-        order /= left.len() + 1;
-        words.push_str(option)?;
+    for _ in 0..options.len() {
+        let count = left.len();
+        if count == 0 {
+            break;
+        }
+        words.push_str(left.remove(order % count))?;
+        order /= count;
     }
     Ok(words)
 }
