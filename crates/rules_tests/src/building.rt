@@ -13,27 +13,13 @@ pub const J: u16 = 1;
 
 pub const M: u16 = 2;
 
-pub const II: u16 = 3;
+const II: u16 = 3;
 
-pub const JJ: u16 = 4;
-
-/// The arrays: `static a(i)`, `temp t(i,j)`, `temp c(ii)`, `local l(i)`, `distributed d(i)` and `served v(i)`, on lines 7 to 12.
-pub const A: u16 = 0;
-
-pub const T: u16 = 1;
-
-pub const C: u16 = 2;
-
-pub const L: u16 = 3;
-
+/// The last two of the arrays, which are `static a(i)`, `temp t(i,j)`, `temp c(ii)`, `local l(i)`,
+/// `distributed d(i)` and `served v(i)`, on lines 7 to 12.
 pub const D: u16 = 4;
 
 pub const V: u16 = 5;
-
-/// The scalars, `s` and `e`.
-pub const S: u16 = 0;
-
-pub const E: u16 = 1;
 
 fn segments(alloc: Global, line: u32, kind: Kind) -> Result<IndexDecl, AllocError> {
     let (lo, hi) = (Bound::Number(1), Bound::Number(2));
@@ -44,8 +30,8 @@ fn segments(alloc: Global, line: u32, kind: Kind) -> Result<IndexDecl, AllocErro
     })
 }
 
-/// A subindex of an index.
-pub fn pieces(alloc: Global, line: u32, super_index: u16) -> Result<IndexDecl, AllocError> {
+// A subindex of an index.
+fn pieces(alloc: Global, line: u32, super_index: u16) -> Result<IndexDecl, AllocError> {
     Ok(IndexDecl {
         name: Text::from_slice(alloc, b"ii")?,
         line,
@@ -53,13 +39,8 @@ pub fn pieces(alloc: Global, line: u32, super_index: u16) -> Result<IndexDecl, A
     })
 }
 
-/// An array over some indices.
-pub fn array(
-    alloc: Global,
-    line: u32,
-    kind: ArrayKind,
-    dims: &[u16],
-) -> Result<ArrayDecl, AllocError> {
+// An array over some indices.
+fn array(alloc: Global, line: u32, kind: ArrayKind, dims: &[u16]) -> Result<ArrayDecl, AllocError> {
     Ok(ArrayDecl {
         name: Text::from_slice(alloc, b"a")?,
         line,
@@ -124,8 +105,8 @@ pub fn within(alloc: Global, body: Vec<Stmt>) -> Result<Vec<Stmt>, AllocError> {
     one(alloc, Stmt { line: 20, form })
 }
 
-/// A block.
-pub fn block(alloc: Global, array: u16, at: &[u16]) -> Result<BlockRef, AllocError> {
+// A block.
+fn block(alloc: Global, array: u16, at: &[u16]) -> Result<BlockRef, AllocError> {
     let at = Tuple::from_slice(alloc, at)?;
     Ok(BlockRef { array, at })
 }
@@ -145,14 +126,4 @@ pub fn fill(alloc: Global, line: u32, array: u16, at: &[u16]) -> Result<Stmt, Al
         right: Right::One(Operand::Number(3)),
     };
     Ok(Stmt { line, form })
-}
-
-/// A block copied to another.
-pub fn copy(line: u32, into: BlockRef, from: BlockRef) -> Stmt {
-    let form = Form::Assign {
-        target: Target::Block(into),
-        op: Op::Set,
-        right: Right::One(Operand::Block(from)),
-    };
-    Stmt { line, form }
 }

@@ -19,3 +19,5 @@ mod shape_faults;
 mod side_faults;
 #[cfg(test)]
 mod space_faults;
+#[cfg(test)]
+mod texts;

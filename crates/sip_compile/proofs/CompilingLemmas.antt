@@ -1,9 +1,7 @@
 -- What tables that were written are of.
-use Rattle.std.proofs.Common.{◌≡◌, ℕ, List, Option, Ok, subst}
+use Rattle.std.proofs.Common.{◌≡◌, ℕ, List, Ok, subst}
 use Rattle.sial_syntax.specs.Tree.{tree}
-use Rattle.sip_files.specs.Files.{Folder}
 use Rattle.sip_files.specs.Loading.{LoadOf}
-use Rattle.sip_files.specs.declared.call.Call.{Call}
 use Rattle.sip_grant.specs.Names.{program_file}
 use Rattle.sip_grant.specs.Ruled.{IsRuled}
 use Rattle.sip_grant.specs.declared.ruled.Ruled.{Ruled}

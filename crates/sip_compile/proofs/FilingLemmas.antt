@@ -1,8 +1,8 @@
 -- What a file has that was cleared and added to.
-use Rattle.std.proofs.Common.{◌≡◌, ◌≢◌, ℕ, ◌≤◌, List, [], ◌++◌, Option, Some, None, Result, Ok, Err, OnOk, OnErr, option_map, refl, sym, ap, ◌∙◌, subst, inl, inr, arith}
+use Rattle.std.proofs.Common.{◌≡◌, ℕ, List, [], Option, Some, None, Result, Ok, Err, OnOk, OnErr, refl, sym, ap, ◌∙◌, subst, inr, arith}
 use Rattle.sip_files.specs.Files.{CountsOnly, Folder, Rose}
 use Rattle.sip_files.specs.Sink.{Gains, GainsPart}
-use Rattle.sip_files.specs.Writing.{bytes_in, bytes_of, cleared}
+use Rattle.sip_files.specs.Writing.{bytes_of, cleared}
 use Rattle.sip_files.specs.declared.call.Call.{Call}
 use Rattle.sip_files.specs.declared.call.Call.TheVariants.{Load, Clear, Append}
 use Rattle.sip_files.specs.declared.fault.Failed.{Failed}

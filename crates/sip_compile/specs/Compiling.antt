@@ -1,5 +1,5 @@
 -- What became of a program that was to be compiled.
-use Rattle.std.specs.Prelude.{◌≡◌, ◌⊎◌, ℕ, List, Option}
+use Rattle.std.specs.Prelude.{ℕ, List, Option}
 use Rattle.sial_syntax.specs.Tree.{Tree}
 use Rattle.sip_files.specs.Files.{Folder}
 use Rattle.sip_files.specs.Loading.{LoadOf}

@@ -1,10 +1,9 @@
 -- What words ask for.
-use Rattle.std.proofs.Common.{◌≡◌, ◌≢◌, ◌∙◌, ℕ, List, Result, Ok, Err, IfOk, IfErr, IsErrOf, String, refl, sym, ap, subst}
+use Rattle.std.proofs.Common.{◌≡◌, ◌≢◌, ◌∙◌, ℕ, List, Result, Ok, Err, IfOk, IsErrOf, String, sym, ap, subst}
 use Rattle.std.specs.declared.alloc.Global.{Global}
 use Rattle.sip_grant.specs.Names.{Names}
 use Rattle.sip_words.specs.Asking.{IsRequest}
 use Rattle.sip_words.specs.Plain.{Spells}
-use Rattle.sip_words.specs.Requests as spec
 use Rattle.sip_words.specs.Requests.{Request, compile}
 use Rattle.sip_words.specs.Seen.{texts}
 use Rattle.sip_words.specs.declared.fault.WordsFault.{WordsFault}

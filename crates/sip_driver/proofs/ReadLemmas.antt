@@ -1,6 +1,5 @@
 -- Files that were read aren't ones that can't be.
-use Rattle.std.proofs.Common.{◌≡◌, ◌∙◌, ℕ, ◌<◌, ◌≤◌, ◌⊎◌, List, Option, Some, None, IsSomeAnd, Result, Ok, String, length, subst, sym, inl, inr, arith}
-use Rattle.std.specs.declared.alloc.Global.{Global}
+use Rattle.std.proofs.Common.{◌∙◌, ℕ, ◌<◌, ◌≤◌, List, Option, Some, None, IsSomeAnd, Result, Ok, length, subst, sym, inl, inr, arith}
 use Rattle.sip_files.specs.Files.{Folder}
 use Rattle.sip_files.specs.Loading.{Wanted, Tells, Loading}
 use Rattle.sip_files.specs.declared.call.Call.{Call}

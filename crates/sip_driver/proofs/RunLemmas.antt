@@ -1,5 +1,5 @@
 -- What each answer of a run says of its status.
-use Rattle.std.proofs.Common.{◌≡◌, ◌≢◌, ◌∙◌, ℕ, ◌≤◌, ◌⊎◌, List, Option, Result, subst, sym, inl, inr, arith, refl}
+use Rattle.std.proofs.Common.{◌≡◌, ◌≢◌, ◌∙◌, ℕ, ◌⊎◌, List, Option, Result, subst, sym, inl, inr, arith, refl}
 use Rattle.index_spaces.specs.declared.fault.SpaceFault.{SpaceFault}
 use Rattle.input_text.specs.declared.fault.InputFault.{InputFault}
 use Rattle.scalar_discipline.specs.declared.fault.RuleFault.{RuleFault}

@@ -50,11 +50,7 @@ pub fn load_granted<F: Files>(
 
 /// Loads a program, of at most 16 MiB, if it keeps the rules.
 #[tactic(auto, using(crate::proofs::LoadLemmas::refuses_program))]
-pub fn load_program<F: Files>(
-    alloc: Global,
-    files: &mut F,
-    program: &str,
-) -> Result<Ruled, Refusal>
+pub fn load_program<F: Files>(alloc: Global, files: &mut F, program: &str) -> Result<Ruled, Refusal>
     ensures ruled { IfOk result (λ r. ForProgram (Loading F.load_gives F.told F.faults F.overlong)
         files.old files.new program.now (λ text. IsRuled text r)) }
     ensures refused { IfErr result (RefusesProgram (Loading F.load_gives F.told F.faults F.overlong)

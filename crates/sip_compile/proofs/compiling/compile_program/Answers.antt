@@ -1,4 +1,3 @@
-use Rattle.std.proofs.Common.{ℕ, List, rules}
 use Rattle.sip_files.specs.Loading.{Loading}
 use Rattle.sip_compile.specs.Filing.{Holds, IsUnfiled}
 use Rattle.sip_compile.proofs.CompilingLemmas.{for_table}

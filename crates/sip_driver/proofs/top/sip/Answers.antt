@@ -1,4 +1,4 @@
-use Rattle.std.proofs.Common.{◌≡◌, inl, inr, rules}
+use Rattle.std.proofs.Common.{inl, inr, rules}
 use Rattle.sip_files.specs.Loading.{Loading}
 use Rattle.sip_grant.specs.Names.{named}
 use Rattle.sip_words.specs.Requests.{compile}
