@@ -13,3 +13,4 @@ pub mod FirstLemmas
 pub mod ToldLemmas
 pub mod MixLemmas
 pub mod ClassifyLemmas
+mod DistinctLemmas

@@ -7,3 +7,4 @@ pub mod Parts
 pub mod Deeds
 pub mod Judging
 pub mod Mixing
+pub mod Distinct

@@ -5,6 +5,7 @@ mod call;
 mod classing;
 mod deeds;
 mod depths;
+mod distinct;
 mod fault;
 mod handing;
 mod judging;

@@ -4,9 +4,11 @@ ghost use Rattle.std.specs.Prelude.{◌≡◌, IfOk, IsTrue, false, length, slic
 ghost use Rattle.std.specs.List.{enumerate_from};
 ghost use Rattle.sial_syntax.specs.SideRules.{least};
 ghost use Rattle.scalar_discipline.specs.Calls.{lists};
+ghost use Rattle.scalar_discipline.specs.Distinct.{LeadAlike};
 ghost use Rattle.scalar_discipline.specs.Rounds as spec;
 
 use crate::call::Call;
+use crate::distinct::all_distinct;
 use std::alloc::{AllocError, Global};
 
 /// The least line of a call within a procedure that leads back to it.
@@ -14,12 +16,27 @@ use std::alloc::{AllocError, Global};
 pub fn first_back(alloc: Global, calls: &[Vec<Call>]) -> Result<Option<u32>, AllocError>
     ensures { IfOk result (λ first. first ≡ spec.first_back (lists calls.now) (enumerate_from 0 (lists calls.now))) }
 {
+    // Who reaches whom is found over few calls, which a long body may repeat many times.
+    let few = all_distinct(alloc, calls)?;
     let mut first = None;
     for (procedure, own) in calls.iter().enumerate() {
-        let reach = reaching(alloc, calls, procedure)?;
+        let reach = reached(alloc, calls, few.as_slice(), procedure)?;
         first = lesser(first, least_back(reach.as_slice(), own.as_slice()));
     }
     Ok(first)
+}
+
+// Which procedures reach another, found over other calls that lead alike.
+fn reached(
+    alloc: Global,
+    calls: &[Vec<Call>],
+    few: &[Vec<Call>],
+    to: usize,
+) -> Result<Vec<bool>, AllocError>
+    requires { LeadAlike (lists few.now) (lists calls.now) }
+    ensures { IfOk result (λ reach. reach.items ≡ spec.reach_after (lists calls.now) to (length calls.now)) }
+{
+    reaching(alloc, few, to)
 }
 
 // Which procedures reach another: rounds of one call more each, until one finds no more.
