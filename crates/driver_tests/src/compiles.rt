@@ -36,7 +36,14 @@ fn the_table_is_written_in_place_of_what_was_there(rt: HostRuntime) {
     let table = files.held("table").unwrap_or(b"");
     assert_eq!(rt; table.len(), 93);
     assert!(rt; table.starts_with(FRONT));
-    assert!(rt; files.put("table", b"something longer than a table, so that what it had would be seen behind the table's last byte if it stayed").is_ok());
+    assert!(rt;
+        files
+            .put(
+                "table",
+                b"something longer than a table, so that what it had would be seen behind the table's last byte if it stayed"
+            )
+            .is_ok()
+    );
     expect_status(&rt, alloc, &mut files, PROGRAM, 0, b"");
     assert_eq!(rt; files.held("table").unwrap_or(b"").len(), 93);
     assert_eq!(rt; files.held("first.sial").unwrap_or(b""), PROGRAM);

@@ -9,14 +9,38 @@ const FAULTS: [(&[u8], &[u8]); 12] = [
     (b"segments ao 2 0\n", b"sip: input line 1: BadLine\n"),
     (b"segments ao 2 1025\n", b"sip: input line 1: BadLine\n"),
     (b"\nsegments index 2\n", b"sip: input line 2: BadLine\n"),
-    (b"segments ao 2 1\nscalar s\n", b"sip: input line 2: BadLine\n"),
-    (b"const n = 18446744073709551616\n", b"sip: input line 1: TooWide\n"),
-    (b"scalar s = -18446744073709551616\n", b"sip: input line 1: TooWide\n"),
-    (b"block a 1 = 1 18446744073709551616\n", b"sip: input line 1: TooWide\n"),
-    (b"segments ao 18446744073709551616\n", b"sip: input line 1: BadLine\n"),
-    (b"segments ao 2 1\nsegments ao 2 1\n", b"sip: input line 2: Twice\n"),
-    (b"scalar s = 1\nscalar S = 2\n", b"sip: input line 2: Twice\n"),
-    (b"block a 1 = 1\nblock a 1 = 2\n", b"sip: input line 2: Twice\n"),
+    (
+        b"segments ao 2 1\nscalar s\n",
+        b"sip: input line 2: BadLine\n",
+    ),
+    (
+        b"const n = 18446744073709551616\n",
+        b"sip: input line 1: TooWide\n",
+    ),
+    (
+        b"scalar s = -18446744073709551616\n",
+        b"sip: input line 1: TooWide\n",
+    ),
+    (
+        b"block a 1 = 1 18446744073709551616\n",
+        b"sip: input line 1: TooWide\n",
+    ),
+    (
+        b"segments ao 18446744073709551616\n",
+        b"sip: input line 1: BadLine\n",
+    ),
+    (
+        b"segments ao 2 1\nsegments ao 2 1\n",
+        b"sip: input line 2: Twice\n",
+    ),
+    (
+        b"scalar s = 1\nscalar S = 2\n",
+        b"sip: input line 2: Twice\n",
+    ),
+    (
+        b"block a 1 = 1\nblock a 1 = 2\n",
+        b"sip: input line 2: Twice\n",
+    ),
 ];
 
 #[test]
@@ -31,11 +55,26 @@ const MISFITS: [(&[u8], &[u8]); 8] = [
     (b"", b"sip: space i 0: NoSegment\n"),
     (b"segments mo 2 1\n", b"sip: space i 0: NoSegment\n"),
     (b"segments ao 2\n", b"sip: space i 2: NoSegment\n"),
-    (b"segments ao 2 1\nscalar t = 1\n", b"sip: space t 2: BadStart\n"),
-    (b"segments ao 2 1\nblock b 1 = 1 2\n", b"sip: space b 2: BadStart\n"),
-    (b"segments ao 2 1\nblock a 3 = 1 2\n", b"sip: space a 2: BadStart\n"),
-    (b"segments ao 2 1\nblock a 1 = 1 2 3\n", b"sip: space a 2: BadStart\n"),
-    (b"segments ao 2 1\nblock a 1 = 1\nscalar t = 1\n", b"sip: space a 2: BadStart\n"),
+    (
+        b"segments ao 2 1\nscalar t = 1\n",
+        b"sip: space t 2: BadStart\n",
+    ),
+    (
+        b"segments ao 2 1\nblock b 1 = 1 2\n",
+        b"sip: space b 2: BadStart\n",
+    ),
+    (
+        b"segments ao 2 1\nblock a 3 = 1 2\n",
+        b"sip: space a 2: BadStart\n",
+    ),
+    (
+        b"segments ao 2 1\nblock a 1 = 1 2 3\n",
+        b"sip: space a 2: BadStart\n",
+    ),
+    (
+        b"segments ao 2 1\nblock a 1 = 1\nscalar t = 1\n",
+        b"sip: space a 2: BadStart\n",
+    ),
 ];
 
 #[test]
@@ -47,10 +86,22 @@ fn what_does_not_fit_is_told(rt: HostRuntime) {
 
 // Programs that an input doesn't fit, each with its line.
 const UNFIT: [(&[u8], &[u8]); 6] = [
-    (b"sial n\naoindex i = 1, nao\nendsial n\n", b"sip: space i 0: NoConstant\n"),
-    (b"sial n\naoindex i = 0, 1\nendsial n\n", b"sip: space i 0: NoSegment\n"),
-    (b"sial n\naoindex i = 1, 3\nendsial n\n", b"sip: space i 3: NoSegment\n"),
-    (b"sial n\naoindex i = 1, 1\nsubindex j of i\nendsial n\n", b"sip: space j 0: NoSegment\n"),
+    (
+        b"sial n\naoindex i = 1, nao\nendsial n\n",
+        b"sip: space i 0: NoConstant\n",
+    ),
+    (
+        b"sial n\naoindex i = 0, 1\nendsial n\n",
+        b"sip: space i 0: NoSegment\n",
+    ),
+    (
+        b"sial n\naoindex i = 1, 3\nendsial n\n",
+        b"sip: space i 3: NoSegment\n",
+    ),
+    (
+        b"sial n\naoindex i = 1, 1\nsubindex j of i\nendsial n\n",
+        b"sip: space j 0: NoSegment\n",
+    ),
     (
         b"sial n\naoindex i = 1, 1\naoindex j = 1, 2\nstatic a(i)\ndo j\na(j) = 1\nenddo j\nendsial n\n",
         b"sip: space j 6: NotWithin\n",
@@ -73,10 +124,7 @@ const SUMS: &[u8] =
 
 // Inputs of these sums, each with the lines that they print.
 const STARTS: [(&[u8], &[u8]); 4] = [
-    (
-        b"const last = 1\nsegments ao 2\n",
-        b"x 0\nx 2\ns 0\n",
-    ),
+    (b"const last = 1\nsegments ao 2\n", b"x 0\nx 2\ns 0\n"),
     (
         b"const last = 2\nsegments ao 2 1\nscalar x = 18446744073709551615\nblock a 1 = 1 2\nblock b 1 = 3 4\n",
         b"x 18446744073709551615\nx 1\ns 36\ns 0\n",

@@ -11,26 +11,77 @@ const DECLARED: &[u8] =
 // Lines behind the declarations, each with the rule that they break first.
 const BROKEN: [(&[u8], &[u8]); 18] = [
     (b"a(i) = 1\n", b"sip: rule line 11: Unbound\n"),
-    (b"do i\ndo i\nenddo i\nenddo i\n", b"sip: rule line 12: Rebound\n"),
-    (b"do i\nb(i, i) = 1\nenddo i\n", b"sip: rule line 12: Repeated\n"),
-    (b"do m\na(m) = 1\nenddo m\n", b"sip: rule line 12: WrongKind\n"),
-    (b"do i\nb(i) = 1\nenddo i\n", b"sip: rule line 12: WrongIndices\n"),
-    (b"pardo i\nd(i) = 1\nendpardo i\n", b"sip: rule line 12: NotWritable\n"),
-    (b"pardo i\npardo j\nendpardo\nendpardo\n", b"sip: rule line 12: PardoInPardo\n"),
-    (b"do i\nput d(i) = t(i)\nenddo\n", b"sip: rule line 12: SharedWriteOutside\n"),
-    (b"pardo i\nsip_barrier\nendpardo\n", b"sip: rule line 12: SyncInside\n"),
-    (b"pardo i\nprint \"x\"\nendpardo\n", b"sip: rule line 12: PrintInside\n"),
-    (b"pardo i\na(i) = 1\nendpardo\n", b"sip: rule line 12: StaticWriteInside\n"),
-    (b"pardo i\nallocate l(*)\nendpardo\nallocate l(*)\n", b"sip: rule line 14: MixedLocal\n"),
-    (b"pardo i\ns = 1\nendpardo\nexecute print_scalar s\n", b"sip: rule line 14: MixedScalar\n"),
-    (b"pardo i\ns += 1\nendpardo\nif s < 3\nendif\n", b"sip: rule line 14: PartialRead\n"),
-    (b"proc p\ncall p\nendproc\n", b"sip: rule line 12: Recursion\n"),
+    (
+        b"do i\ndo i\nenddo i\nenddo i\n",
+        b"sip: rule line 12: Rebound\n",
+    ),
+    (
+        b"do i\nb(i, i) = 1\nenddo i\n",
+        b"sip: rule line 12: Repeated\n",
+    ),
+    (
+        b"do m\na(m) = 1\nenddo m\n",
+        b"sip: rule line 12: WrongKind\n",
+    ),
+    (
+        b"do i\nb(i) = 1\nenddo i\n",
+        b"sip: rule line 12: WrongIndices\n",
+    ),
+    (
+        b"pardo i\nd(i) = 1\nendpardo i\n",
+        b"sip: rule line 12: NotWritable\n",
+    ),
+    (
+        b"pardo i\npardo j\nendpardo\nendpardo\n",
+        b"sip: rule line 12: PardoInPardo\n",
+    ),
+    (
+        b"do i\nput d(i) = t(i)\nenddo\n",
+        b"sip: rule line 12: SharedWriteOutside\n",
+    ),
+    (
+        b"pardo i\nsip_barrier\nendpardo\n",
+        b"sip: rule line 12: SyncInside\n",
+    ),
+    (
+        b"pardo i\nprint \"x\"\nendpardo\n",
+        b"sip: rule line 12: PrintInside\n",
+    ),
+    (
+        b"pardo i\na(i) = 1\nendpardo\n",
+        b"sip: rule line 12: StaticWriteInside\n",
+    ),
+    (
+        b"pardo i\nallocate l(*)\nendpardo\nallocate l(*)\n",
+        b"sip: rule line 14: MixedLocal\n",
+    ),
+    (
+        b"pardo i\ns = 1\nendpardo\nexecute print_scalar s\n",
+        b"sip: rule line 14: MixedScalar\n",
+    ),
+    (
+        b"pardo i\ns += 1\nendpardo\nif s < 3\nendif\n",
+        b"sip: rule line 14: PartialRead\n",
+    ),
+    (
+        b"proc p\ncall p\nendproc\n",
+        b"sip: rule line 12: Recursion\n",
+    ),
     // A shape rule goes before a side rule of an earlier line.
-    (b"pardo i\nprint \"x\"\nendpardo\na(i) = 1\n", b"sip: rule line 14: Unbound\n"),
+    (
+        b"pardo i\nprint \"x\"\nendpardo\na(i) = 1\n",
+        b"sip: rule line 14: Unbound\n",
+    ),
     // On one line the rule of the lower number is told.
-    (b"do m\na(m) = t(i)\nenddo m\n", b"sip: rule line 12: Unbound\n"),
+    (
+        b"do m\na(m) = t(i)\nenddo m\n",
+        b"sip: rule line 12: Unbound\n",
+    ),
     // Recursion goes before a side rule of an earlier line.
-    (b"proc p\npardo i\nprint \"x\"\nendpardo\ncall p\nendproc\n", b"sip: rule line 15: Recursion\n"),
+    (
+        b"proc p\npardo i\nprint \"x\"\nendpardo\ncall p\nendproc\n",
+        b"sip: rule line 15: Recursion\n",
+    ),
 ];
 
 // A program of the declarations and these lines.
