@@ -37,22 +37,22 @@ fn the_tables_of_worked_programs_give_them(rt: HostRuntime) -> Result<(), Fail> 
 
 #[test]
 fn each_byte_set_to_255_is_refused_or_a_programs(rt: HostRuntime) -> Result<(), Fail> {
-    let mut programs = 0u32;
-    let mut others = 0u32;
+    let mut programs = false;
+    let mut others = false;
     for at in 0..SMALL.len() {
         let mut bytes = Vec::from_slice(rt.alloc(), SMALL.as_slice())?;
         bytes[at] = 255;
         if let Ok(tables) = decode(rt.alloc(), bytes.as_slice()) {
             if unflatten(rt.alloc(), &tables).is_ok() {
-                programs += 1;
+                programs = true;
                 let again = written_again(rt.alloc(), &tables)?;
                 assert_eq!(rt; again.as_slice(), bytes.as_slice());
             } else {
-                others += 1;
+                others = true;
             }
         }
     }
-    assert!(rt; programs > 0 && others > 0);
+    assert!(rt; programs && others);
     Ok(())
 }
 
@@ -60,7 +60,9 @@ fn each_byte_set_to_255_is_refused_or_a_programs(rt: HostRuntime) -> Result<(), 
 fn one_wrong_number_in_the_code_is_refused(rt: HostRuntime) -> Result<(), Fail> {
     let tables = compiled(rt.alloc(), EACH_FORM)?;
     let file = written(rt.alloc(), &tables)?;
-    let code = file.len() - INSTRUCTION * tables.code_len();
+    let code = file
+        .len()
+        .saturating_sub(INSTRUCTION.saturating_mul(tables.code_len()));
     for (instruction, place, number) in [
         // a pardo jumps past its end, and its end into the loop
         (0, 11, 4),
@@ -85,7 +87,13 @@ fn one_wrong_number_in_the_code_is_refused(rt: HostRuntime) -> Result<(), Fail> 
         (14, 0, 1),
     ] {
         let mut bytes = Vec::from_slice(rt.alloc(), file.as_slice())?;
-        bytes[code + INSTRUCTION * instruction + place] = number;
+        let within = INSTRUCTION
+            .saturating_mul(instruction)
+            .saturating_add(place);
+        let at = code.saturating_add(within);
+        if let Some(byte) = bytes.as_mut_slice().get_mut(at) {
+            *byte = number;
+        }
         let changed = decode(rt.alloc(), bytes.as_slice())
             .ok()
             .ok_or("it is a file")?;
