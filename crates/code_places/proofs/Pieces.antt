@@ -1,0 +1,35 @@
+-- Parts of a list at their places.
+use Rattle.std.proofs.Common.{◌≡◌, ℕ, ◌+◌, List, [], ◌∷◌, ◌++◌, length, Some, slice_get, refl, ap, sym, ◌∙◌, arith, length-append, append_assoc, append-nil}
+use Rattle.code_places.specs.Standing.{PartAt}
+
+-- a part of what stands at a place
+pub within : {X : Type 0} (at n : ℕ) (part whole front middle back : List X) → PartAt at part whole → part ≡ front ++ (middle ++ back) → n ≡ at + length front → PartAt n middle whole
+within {X} at n part whole front middle back stands parts place = record {
+  front = stands.front ++ front;
+  back = back ++ stands.back;
+  whole_is =
+      stands.whole_is
+      ∙ ap (λ (x : List X). stands.front ++ (x ++ stands.back)) parts
+      ∙ ap (λ (x : List X). stands.front ++ x) (append_assoc front (middle ++ back) stands.back ∙ ap (λ (x : List X). front ++ x) (append_assoc middle back stands.back))
+      ∙ sym (append_assoc stands.front front (middle ++ (back ++ stands.back)));
+  before = let e = length-append stands.front front in let b = stands.before in omega (arith, e, b, place);
+}
+
+-- the first part of two
+pub first_part : {X : Type 0} (at : ℕ) (xs ys whole : List X) → PartAt at (xs ++ ys) whole → PartAt at xs whole
+first_part {X} at xs ys whole stands = within at at (xs ++ ys) whole [] xs ys stands refl (omega arith)
+
+-- the second part of two
+pub second_part : {X : Type 0} (at n : ℕ) (xs ys whole : List X) → PartAt at (xs ++ ys) whole → n ≡ at + length xs → PartAt n ys whole
+second_part {X} at n xs ys whole stands place = within at n (xs ++ ys) whole xs ys [] stands (ap (λ (x : List X). xs ++ x) (sym (append-nil ys))) place
+
+-- the entry behind others
+get_behind : {X : Type 0} (front : List X) (x : X) (xs : List X) → slice_get (front ++ x ∷ xs) (length front) ≡ Some x
+get_behind [] x xs = refl
+get_behind (y ∷ front) x xs = get_behind front x xs
+
+-- the first entry of a part is found at its place
+pub get_first : {X : Type 0} (at : ℕ) (x : X) (xs whole : List X) → PartAt at (x ∷ xs) whole → slice_get whole at ≡ Some x
+get_first at x xs whole stands =
+    ap (λ n. slice_get whole n) (sym stands.before)
+    ∙ (ap (λ w. slice_get w (length stands.front)) stands.whole_is ∙ get_behind stands.front x (xs ++ stands.back))

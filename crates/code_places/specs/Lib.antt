@@ -1,0 +1,6 @@
+pub mod Standing
+pub mod Follows
+pub mod Head
+pub mod StartLaws
+pub mod PushLaws
+pub mod StepLaws

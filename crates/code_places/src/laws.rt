@@ -1,0 +1,32 @@
+//! The rest of the work in the code: laws that the worker's proofs cite.
+
+ghost use Rattle.code_places.specs.PushLaws.{PushFollows, PushHasPlace, PushKeepsReturns};
+ghost use Rattle.code_places.specs.StartLaws.{HeadIs, StartsAtFirst, StartsWithoutCalls, WorkStarts};
+ghost use Rattle.code_places.specs.StepLaws.{ControlFollows, ProceduresFollow, StepFollows, StepsFollow};
+
+/// The work of a program starts in its code, at the first instruction.
+pub fn work_starts_in_the_code()
+    ensures starts { WorkStarts }
+    ensures first { StartsAtFirst }
+    ensures calls { StartsWithoutCalls }
+{}
+
+/// The cursor stands at the instruction that the first item of the rest says.
+pub fn head_is_at_the_cursor()
+    ensures head { HeadIs }
+{}
+
+/// A body in the code, before the rest that stands behind it.
+pub fn bodies_are_pushed()
+    ensures place { PushHasPlace }
+    ensures follows { PushFollows }
+    ensures returns { PushKeepsReturns }
+{}
+
+/// Each step keeps to the code.
+pub fn steps_keep_to_the_code()
+    ensures procedures { ProceduresFollow }
+    ensures control { ControlFollows }
+    ensures step { StepFollows }
+    ensures steps { StepsFollow }
+{}
