@@ -4,3 +4,4 @@ pub mod Pushing
 pub mod HeadLemmas
 pub mod Procedures
 pub mod StepLemmas
+pub mod ItemLemmas

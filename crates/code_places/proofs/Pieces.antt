@@ -1,5 +1,5 @@
 -- Parts of a list at their places.
-use Rattle.std.proofs.Common.{◌≡◌, ℕ, ◌+◌, List, [], ◌∷◌, ◌++◌, length, Some, slice_get, refl, ap, sym, ◌∙◌, arith, length-append, append_assoc, append-nil}
+use Rattle.std.proofs.Common.{◌≡◌, ℕ, zero, suc, ◌+◌, List, [], ◌∷◌, ◌++◌, length, Some, slice_get, refl, ap, sym, ◌∙◌, arith, length-append, append_assoc, append-nil}
 use Rattle.code_places.specs.Standing.{PartAt}
 
 -- a part of what stands at a place
@@ -33,3 +33,22 @@ pub get_first : {X : Type 0} (at : ℕ) (x : X) (xs whole : List X) → PartAt a
 get_first at x xs whole stands =
     ap (λ n. slice_get whole n) (sym stands.before)
     ∙ (ap (λ w. slice_get w (length stands.front)) stands.whole_is ∙ get_behind stands.front x (xs ++ stands.back))
+
+-- an entry of a list before others
+get_before : {X : Type 0} (xs ys : List X) (n : ℕ) (x : X) → slice_get xs n ≡ Some x → slice_get (xs ++ ys) n ≡ Some x
+get_before [] ys n x is = absurd cc
+get_before (y ∷ xs) ys zero x is = is
+get_before (y ∷ xs) ys (suc n) x is = get_before xs ys n x is
+
+-- an entry of a list behind others
+get_after : {X : Type 0} (front xs : List X) (n : ℕ) → slice_get (front ++ xs) (length front + n) ≡ slice_get xs n
+get_after [] xs n = let e : 0 + n ≡ n = omega arith in ap (λ m. slice_get xs m) e
+get_after (y ∷ front) xs n =
+    let e : length (y ∷ front) + n ≡ suc (length front + n) = omega arith in
+    ap (λ m. slice_get (y ∷ (front ++ xs)) m) e ∙ get_after front xs n
+
+-- an entry of a part is found so far behind its place
+pub get_inside : {X : Type 0} (at n : ℕ) (part whole : List X) (x : X) → PartAt at part whole → slice_get part n ≡ Some x → slice_get whole (at + n) ≡ Some x
+get_inside at n part whole x stands is =
+    ap (λ m. slice_get whole (m + n)) (sym stands.before)
+    ∙ (ap (λ w. slice_get w (length stands.front + n)) stands.whole_is ∙ (get_after stands.front (part ++ stands.back) n ∙ get_before part stands.back n x is))

@@ -4,3 +4,5 @@ pub mod Head
 pub mod StartLaws
 pub mod PushLaws
 pub mod StepLaws
+pub mod Items
+pub mod ItemLaws

@@ -1,5 +1,6 @@
 //! The rest of the work in the code: laws that the worker's proofs cite.
 
+ghost use Rattle.code_places.specs.ItemLaws.{ItemTold, LoopsHaveHeads, PardosHaveHeads, WheresStand};
 ghost use Rattle.code_places.specs.PushLaws.{PushFollows, PushHasPlace, PushKeepsReturns};
 ghost use Rattle.code_places.specs.StartLaws.{HeadIs, StartsAtFirst, StartsWithoutCalls, WorkStarts};
 ghost use Rattle.code_places.specs.StepLaws.{ControlFollows, ProceduresFollow, StepFollows, StepsFollow};
@@ -29,4 +30,12 @@ pub fn steps_keep_to_the_code()
     ensures control { ControlFollows }
     ensures step { StepFollows }
     ensures steps { StepsFollow }
+{}
+
+/// The instruction at the cursor tells the first item of the rest; loops and pardos in progress have their heads in the code.
+pub fn instructions_tell_the_work()
+    ensures item { ItemTold }
+    ensures loops { LoopsHaveHeads }
+    ensures pardos { PardosHaveHeads }
+    ensures wheres { WheresStand }
 {}
