@@ -1,9 +1,10 @@
 -- The instruction at which the cursor stands is the one that the first item says.
-use Rattle.std.proofs.Common.{◌≡◌, ℕ, ◌+◌, List, [], ◌∷◌, ◌++◌, length, Some, slice_get, slice_index, refl, ap, sym, ◌∙◌, arith, length-append, append_assoc}
+use Rattle.std.proofs.Common.{subst, ◌≡◌, ℕ, ◌+◌, List, [], ◌∷◌, ◌++◌, length, Some, slice_get, slice_index, refl, ap, sym, ◌∙◌, arith, length-append, append_assoc}
 use Rattle.std.proofs.lemmas.Bool.{ltb-true}
 use Rattle.sial_syntax.specs.Numbering.{size, sizes, entry_of}
 use Rattle.sial_syntax.specs.Tree.{Tree, Plain, Block, Do, DoIn, Pardo, If, IfElse, Call, Assign, Get, Request, Put, Prepare, Create, Delete, Allocate, Deallocate, Collective, SipBarrier, ServerBarrier, Print, PrintScalar, Integrals}
-use Rattle.sial_meaning.specs.Rest.{LoopAt, PardoAt, Over, Next, Turn, Join, Back, Within}
+use Rattle.sial_syntax.specs.Proper.{IsProper}
+use Rattle.sial_meaning.specs.Rest.{LoopAt, PardoAt, Rest, Over, Next, Turn, Join, Back, Within, place}
 use Rattle.sip_tables.specs.Code.{instruction, alone, wheres_code, form_code, body_code, entries_of}
 use Rattle.sip_tables.specs.declared.instruction.Instruction.{Instruction}
 use Rattle.sip_tables.specs.declared.instruction.Operation.{Operation}
@@ -12,8 +13,8 @@ use Rattle.sip_tables.specs.Flatten.{flatten}
 use Rattle.sip_tables.proofs.CodeLemmas.{length-wheres_code, length-body_code}
 use Rattle.sip_tables.proofs.PlaceLemmas.{entries_are_numbers}
 use Rattle.code_places.proofs.Pieces.{within, get_first}
-use Rattle.code_places.specs.Follows.{IsLoop, LoopStands, PardoStands}
-use Rattle.code_places.specs.Head.{Prints, operation_of}
+use Rattle.code_places.specs.Follows.{Follows, IsLoop, LoopStands, PardoStands}
+use Rattle.code_places.specs.Head.{Says, Prints, operation_of}
 use Rattle.code_places.specs.Standing.{FormStands, HasAt}
 use Rattle.code_places.specs.StartLaws.{HeadIs}
 
@@ -97,3 +98,13 @@ head_is p (Turn loop last rest) proper follows = (instruction follows.0.line (op
 head_is p (Join at rest) proper follows = (instruction follows.0.line follows.0.operation, follows.0.stands, follows.0.joins)
 head_is p (Back at values rest) proper follows = (instruction 0 op.Return, follows.0, refl)
 head_is p (Within pardo number rest) proper follows = (instruction follows.0.line (op.EndPardo pardo.head), pardo_end p pardo follows.0, refl)
+
+-- what the first item says of the instruction that is there
+pub told : (p : Tree) (rest : Rest) (i : Instruction) → IsProper p → Follows p rest → HasAt p (place rest) i → Says p rest i
+told p rest i proper follows has =
+    let head = head_is p rest proper follows in
+    let same : head.0 ≡ i = same_instruction (place rest) head.0 i head.1 has in
+    subst (λ (j : Instruction). Says p rest j) same head.2
+  where
+    same_instruction : (at : ℕ) (a b : Instruction) → HasAt p at a → HasAt p at b → a ≡ b
+    same_instruction at a b first second = cc

@@ -10,7 +10,7 @@ use Rattle.sip_tables.specs.declared.instruction.Instruction.{Instruction}
 use Rattle.sip_tables.specs.declared.instruction.Operation.{Operation}
 use Rattle.sip_tables.specs.declared.instruction.Operation.TheVariants as op
 use Rattle.sip_tables.specs.Flatten.{flatten}
-use Rattle.code_places.proofs.HeadLemmas.{head_is, form_first}
+use Rattle.code_places.proofs.HeadLemmas.{told, form_first}
 use Rattle.code_places.proofs.Pieces.{within, get_inside}
 use Rattle.code_places.specs.Follows.{Follows, IsLoop, Joins}
 use Rattle.code_places.specs.Head.{Says, Prints, operation_of}
@@ -71,13 +71,7 @@ said_item p (Within pardo number more) i follows said =
     (record { pardo = pardo; number = number; more = more; is = refl; head_is = refl; stands = follows.0; behind = follows.1; follows = follows.2 })
 
 pub item_told : ItemTold
-item_told p rest i proper follows has =
-    let head = head_is p rest proper follows in
-    let same : head.0 ≡ i = same_instruction (place rest) head.0 i head.1 has in
-    said_item p rest i follows (subst (λ (j : Instruction). Says p rest j) same head.2)
-  where
-    same_instruction : (at : ℕ) (a b : Instruction) → HasAt p at a → HasAt p at b → a ≡ b
-    same_instruction at a b first second = cc
+item_told p rest i proper follows has = said_item p rest i follows (told p rest i proper follows has)
 
 pub loops_have_heads : LoopsHaveHeads
 loops_have_heads p loop s = by_form loop s.line s.form s.is_loop s.form_stands

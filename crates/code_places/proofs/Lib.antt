@@ -5,3 +5,6 @@ pub mod HeadLemmas
 pub mod Procedures
 pub mod StepLemmas
 pub mod ItemLemmas
+pub mod ControlLemmas
+pub mod LeadLemmas
+pub mod StepLeads

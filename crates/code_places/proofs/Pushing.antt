@@ -1,10 +1,10 @@
 -- A body that stands in the code, before the rest that stands behind it.
-use Rattle.std.proofs.Common.{◌≡◌, ℕ, ◌+◌, [], refl, arith}
+use Rattle.std.proofs.Common.{length-append, ◌≡◌, ℕ, ◌+◌, [], refl, arith}
 use Rattle.sial_syntax.specs.Numbering.{size, sizes, stop_at}
 use Rattle.sial_syntax.specs.Proper.{IsProper}
 use Rattle.sial_syntax.specs.Tree.{Tree, End, Then}
 use Rattle.sial_syntax.proofs.DepthLemmas.{body_there}
-use Rattle.sial_meaning.specs.Rest.{Over, place}
+use Rattle.sial_meaning.specs.Rest.{Over, Next, Turn, Join, Back, Within, place}
 use Rattle.sip_tables.specs.Code.{instruction, procedures_code, entries_of}
 use Rattle.sip_tables.specs.declared.instruction.Operation.TheVariants as op
 use Rattle.sip_tables.specs.Flatten.{flatten}
@@ -17,7 +17,8 @@ use Rattle.sial_syntax.specs.Tree.{Procedure}
 use Rattle.code_places.proofs.Bodies.{body_first, body_others}
 use Rattle.code_places.proofs.Pieces.{get_first}
 use Rattle.code_places.specs.Standing.{PartAt, BodyStands, HasAt}
-use Rattle.code_places.specs.PushLaws.{PushHasPlace, PushFollows, PushKeepsReturns}
+use Rattle.code_places.specs.Follows.{return_places}
+use Rattle.code_places.specs.PushLaws.{PushHasPlace, PushFollows, PushKeepsReturns, ReturnsAreDepth}
 use Rattle.code_places.specs.StartLaws.{WorkStarts, StartsAtFirst, StartsWithoutCalls}
 
 pub place_push : PushHasPlace
@@ -27,6 +28,17 @@ place_push at (Then line form more) rest e = refl
 pub returns_push : PushKeepsReturns
 returns_push at End rest = refl
 returns_push at (Then line form more) rest = returns_push (at + size form) more rest
+
+pub returns_are_depth : ReturnsAreDepth
+returns_are_depth (Over at) = refl
+returns_are_depth (Next at line form rest) = returns_are_depth rest
+returns_are_depth (Turn loop last rest) = returns_are_depth rest
+returns_are_depth (Join at rest) = returns_are_depth rest
+returns_are_depth (Back at values rest) =
+    let e = length-append (return_places rest) (place rest ∷ []) in
+    let d = returns_are_depth rest in
+    omega (arith, e, d)
+returns_are_depth (Within pardo number rest) = returns_are_depth rest
 
 pub follows_push : PushFollows
 follows_push p at End rest stands e follows = follows

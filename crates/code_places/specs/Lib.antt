@@ -6,3 +6,4 @@ pub mod PushLaws
 pub mod StepLaws
 pub mod Items
 pub mod ItemLaws
+pub mod Leads

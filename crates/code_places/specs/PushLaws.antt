@@ -1,8 +1,8 @@
--- A body before the rest of the work.
-use Rattle.std.specs.Prelude.{◌≡◌, ℕ, ◌+◌}
+-- A body before the rest of the work; how many calls are in progress.
+use Rattle.std.specs.Prelude.{◌≡◌, ℕ, ◌+◌, length}
 use Rattle.sial_syntax.specs.Numbering.{sizes}
 use Rattle.sial_syntax.specs.Tree.{Tree, Block}
-use Rattle.sial_meaning.specs.Rest.{Rest, place, push}
+use Rattle.sial_meaning.specs.Rest.{Rest, place, push, depth}
 use Rattle.code_places.specs.Follows.{Follows, return_places}
 use Rattle.code_places.specs.Standing.{BodyStands}
 
@@ -19,3 +19,7 @@ PushFollows =
 -- no call begins with a body
 abbrev pub PushKeepsReturns : Type 0
 PushKeepsReturns = (at : ℕ) (body : Block) (rest : Rest) → return_places (push at body rest) ≡ return_places rest
+
+-- the calls in progress are as many as the rest of the work has
+abbrev pub ReturnsAreDepth : Type 0
+ReturnsAreDepth = (rest : Rest) → length (return_places rest) ≡ depth rest

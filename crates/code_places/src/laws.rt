@@ -1,7 +1,8 @@
 //! The rest of the work in the code: laws that the worker's proofs cite.
 
 ghost use Rattle.code_places.specs.ItemLaws.{ItemTold, LoopsHaveHeads, PardosHaveHeads, WheresStand};
-ghost use Rattle.code_places.specs.PushLaws.{PushFollows, PushHasPlace, PushKeepsReturns};
+ghost use Rattle.code_places.specs.Leads.{ControlIsLed, StepIsLed};
+ghost use Rattle.code_places.specs.PushLaws.{PushFollows, PushHasPlace, PushKeepsReturns, ReturnsAreDepth};
 ghost use Rattle.code_places.specs.StartLaws.{HeadIs, StartsAtFirst, StartsWithoutCalls, WorkStarts};
 ghost use Rattle.code_places.specs.StepLaws.{ControlFollows, ProceduresFollow, StepFollows, StepsFollow};
 
@@ -38,4 +39,15 @@ pub fn instructions_tell_the_work()
     ensures loops { LoopsHaveHeads }
     ensures pardos { PardosHaveHeads }
     ensures wheres { WheresStand }
+{}
+
+/// Each step goes where the instruction at the cursor leads.
+pub fn instructions_lead_the_cursor()
+    ensures control { ControlIsLed }
+    ensures step { StepIsLed }
+{}
+
+/// The stack of places to return to is as deep as the calls in progress.
+pub fn returns_are_counted()
+    ensures depth { ReturnsAreDepth }
 {}

@@ -1,5 +1,6 @@
 use Rattle.code_places.proofs.Procedures.{procedures_follow}
-use Rattle.code_places.proofs.StepLemmas.{control_follows, step_follows, steps_follow}
+use Rattle.code_places.proofs.ControlLemmas.{control_follows}
+use Rattle.code_places.proofs.StepLemmas.{step_follows, steps_follow}
 use Rattle.code_places.proofs.laws.steps_keep_to_the_code.Goals as goal
 
 pub returns : goal.returns
