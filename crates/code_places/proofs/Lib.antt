@@ -1,0 +1,10 @@
+pub mod Pieces
+pub mod Bodies
+pub mod Pushing
+pub mod HeadLemmas
+pub mod Procedures
+pub mod StepLemmas
+pub mod ItemLemmas
+pub mod ControlLemmas
+pub mod LeadLemmas
+pub mod StepLeads

@@ -1,0 +1,9 @@
+pub mod Standing
+pub mod Follows
+pub mod Head
+pub mod StartLaws
+pub mod PushLaws
+pub mod StepLaws
+pub mod Items
+pub mod ItemLaws
+pub mod Leads
