@@ -3,7 +3,7 @@
 ghost use Rattle.code_places.specs.ItemLaws.{ItemTold, LoopsHaveHeads, PardosHaveHeads, WheresStand};
 ghost use Rattle.code_places.specs.Leads.{ControlIsLed, StepIsLed};
 ghost use Rattle.code_places.specs.NameLaws.{ScalarsAreNamed};
-ghost use Rattle.code_places.specs.PushLaws.{PushFollows, PushHasPlace, PushKeepsReturns, ReturnsAreDepth};
+ghost use Rattle.code_places.specs.PushLaws.{PushFollows, PushHasPlace, PushKeepsReturns, PushKeepsValues, ReturnsAreDepth};
 ghost use Rattle.code_places.specs.StartLaws.{HeadIs, StartsAtFirst, StartsWithoutCalls, WorkStarts};
 ghost use Rattle.code_places.specs.StepLaws.{ControlFollows, ProceduresFollow, StepFollows, StepsFollow};
 
@@ -24,6 +24,7 @@ pub fn bodies_are_pushed()
     ensures place { PushHasPlace }
     ensures follows { PushFollows }
     ensures returns { PushKeepsReturns }
+    ensures values { PushKeepsValues }
 {}
 
 /// Each step keeps to the code.
