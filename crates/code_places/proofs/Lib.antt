@@ -8,3 +8,4 @@ pub mod ItemLemmas
 pub mod ControlLemmas
 pub mod LeadLemmas
 pub mod StepLeads
+pub mod Naming

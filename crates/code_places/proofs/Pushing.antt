@@ -18,7 +18,7 @@ use Rattle.code_places.proofs.Bodies.{body_first, body_others}
 use Rattle.code_places.proofs.Pieces.{get_first}
 use Rattle.code_places.specs.Standing.{PartAt, BodyStands, HasAt}
 use Rattle.code_places.specs.Follows.{return_places}
-use Rattle.code_places.specs.PushLaws.{PushHasPlace, PushFollows, PushKeepsReturns, ReturnsAreDepth}
+use Rattle.code_places.specs.PushLaws.{PushHasPlace, PushFollows, PushKeepsReturns, PushKeepsValues, ReturnsAreDepth}
 use Rattle.code_places.specs.StartLaws.{WorkStarts, StartsAtFirst, StartsWithoutCalls}
 
 pub place_push : PushHasPlace
@@ -28,6 +28,10 @@ place_push at (Then line form more) rest e = refl
 pub returns_push : PushKeepsReturns
 returns_push at End rest = refl
 returns_push at (Then line form more) rest = returns_push (at + size form) more rest
+
+pub values_push : PushKeepsValues
+values_push at End rest = refl
+values_push at (Then line form more) rest = values_push (at + size form) more rest
 
 pub returns_are_depth : ReturnsAreDepth
 returns_are_depth (Over at) = refl

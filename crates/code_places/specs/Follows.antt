@@ -58,3 +58,12 @@ return_places (Turn loop last rest) = return_places rest
 return_places (Join at rest) = return_places rest
 return_places (Back at values rest) = return_places rest ++ place rest ∷ []
 return_places (Within pardo number rest) = return_places rest
+
+-- the index numbers that the callers get back, those of the last call last
+abbrev pub saved_values : Rest → List (List ℕ)
+saved_values (Over at) = []
+saved_values (Next at line form rest) = saved_values rest
+saved_values (Turn loop last rest) = saved_values rest
+saved_values (Join at rest) = saved_values rest
+saved_values (Back at values rest) = saved_values rest ++ values ∷ []
+saved_values (Within pardo number rest) = saved_values rest

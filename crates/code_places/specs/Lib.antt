@@ -7,3 +7,4 @@ pub mod StepLaws
 pub mod Items
 pub mod ItemLaws
 pub mod Leads
+pub mod NameLaws

@@ -2,7 +2,8 @@
 
 ghost use Rattle.code_places.specs.ItemLaws.{ItemTold, LoopsHaveHeads, PardosHaveHeads, WheresStand};
 ghost use Rattle.code_places.specs.Leads.{ControlIsLed, StepIsLed};
-ghost use Rattle.code_places.specs.PushLaws.{PushFollows, PushHasPlace, PushKeepsReturns, ReturnsAreDepth};
+ghost use Rattle.code_places.specs.NameLaws.{ScalarsAreNamed};
+ghost use Rattle.code_places.specs.PushLaws.{PushFollows, PushHasPlace, PushKeepsReturns, PushKeepsValues, ReturnsAreDepth};
 ghost use Rattle.code_places.specs.StartLaws.{HeadIs, StartsAtFirst, StartsWithoutCalls, WorkStarts};
 ghost use Rattle.code_places.specs.StepLaws.{ControlFollows, ProceduresFollow, StepFollows, StepsFollow};
 
@@ -23,6 +24,7 @@ pub fn bodies_are_pushed()
     ensures place { PushHasPlace }
     ensures follows { PushFollows }
     ensures returns { PushKeepsReturns }
+    ensures values { PushKeepsValues }
 {}
 
 /// Each step keeps to the code.
@@ -50,4 +52,9 @@ pub fn instructions_lead_the_cursor()
 /// The stack of places to return to is as deep as the calls in progress.
 pub fn returns_are_counted()
     ensures depth { ReturnsAreDepth }
+{}
+
+/// The text of a scalar's entry is its name.
+pub fn scalars_are_named()
+    ensures named { ScalarsAreNamed }
 {}
