@@ -94,17 +94,15 @@ pub fn index(
 
 /// An index of ao from 1 to a constant.
 pub fn index_to(alloc: Global, name: &[u8], constant: &[u8]) -> Result<IndexDecl, AllocError> {
-    let (lo, hi) = (
-        Bound::Number(1),
-        Bound::Named(Text::from_slice(alloc, constant)?),
-    );
+    let name = Text::from_slice(alloc, name)?;
+    let constant = Text::from_slice(alloc, constant)?;
     Ok(IndexDecl {
-        name: Text::from_slice(alloc, name)?,
+        name,
         line: 2,
         range: Range::Segments {
             kind: Kind::Ao,
-            lo,
-            hi,
+            lo: Bound::Number(1),
+            hi: Bound::Named(constant),
         },
     })
 }

@@ -119,8 +119,10 @@ fn each_rule_has_its_fault_and_line(rt: HostRuntime) -> Result<(), Fail> {
 
 // What the rules say of two statements within a pardo over `i` and `j`, which no text has on these lines.
 fn judged(alloc: Global, first: Stmt, second: Stmt) -> Result<Result<(), ShapeFault>, AllocError> {
-    let body = within(alloc, two(alloc, first, second)?)?;
-    Ok(shapes(alloc, &program(alloc, body)?))
+    let statements = two(alloc, first, second)?;
+    let body = within(alloc, statements)?;
+    let program = program(alloc, body)?;
+    Ok(shapes(alloc, &program))
 }
 
 #[test]
