@@ -85,7 +85,7 @@ fn what_does_not_fit_is_told(rt: HostRuntime) {
 }
 
 // Programs that an input doesn't fit, each with its line.
-const UNFIT: [(&[u8], &[u8]); 6] = [
+const UNFIT: [(&[u8], &[u8]); 7] = [
     (
         b"sial n\naoindex i = 1, nao\nendsial n\n",
         b"sip: space i 0: NoConstant\n",
@@ -110,6 +110,10 @@ const UNFIT: [(&[u8], &[u8]); 6] = [
         b"sial n\nindex k = 1, 4096\nstatic a(k, k)\nendsial n\n",
         b"sip: space a 16777216: TooManyBlocks\n",
     ),
+    (
+        b"sial n\nindex k = 1, 4096\nindex l = 1, 4096\nindex m = 1, 4096\npardo k, l, m\nendpardo\nendsial n\n",
+        b"sip: space k 68719476736: TooManyBlocks\n",
+    ),
 ];
 
 #[test]
@@ -117,6 +121,15 @@ fn what_a_program_needs_is_told(rt: HostRuntime) {
     for (program, line) in UNFIT {
         expect_status(&rt, rt.alloc(), program, b"segments ao 2 1\n", 5, line);
     }
+}
+
+#[test]
+fn a_block_is_not_too_wide(rt: HostRuntime) {
+    let program = b"sial n\naoindex i = 1, 1\ntemp t(i, i)\nendsial n\n";
+    let wide = b"sip: space t 66049: BlockTooWide\n";
+    expect_status(&rt, rt.alloc(), program, b"segments ao 257\n", 5, wide);
+    let first = b"sip: syntax line 0: FirstPath\n";
+    expect_status(&rt, rt.alloc(), program, b"segments ao 256\n", 3, first);
 }
 
 const SUMS: &[u8] =
