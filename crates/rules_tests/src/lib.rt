@@ -20,4 +20,6 @@ mod side_faults;
 #[cfg(test)]
 mod space_faults;
 #[cfg(test)]
+mod space_order;
+#[cfg(test)]
 mod texts;

@@ -30,3 +30,8 @@ pub record CountsFiles (before now : Call → ℕ) : Type 0 where
   pub clear : before Clear ≤ now Clear
   pub append : before Append ≤ now Append
   pub others : (other : Call) → other ≢ Load → other ≢ Clear → other ≢ Append → now other ≡ before other
+
+-- files were cleared and added to, as their counts say, and none was loaded that failed or was too long
+pub record WritesAlone {F : Type 0} (faults : F → Call → ℕ) (overlong : F → ℕ) (mid new : F) : Type 0 where
+  pub counts : CountsWrites (faults mid) (faults new)
+  pub overlong_stays : overlong new ≡ overlong mid

@@ -4,7 +4,7 @@ ghost use Rattle.std.specs.Prelude.{◌≡◌, OnOk, IfErr};
 ghost use Rattle.sip_files.specs.Loading.{Loading};
 ghost use Rattle.sip_files.specs.Writing.{others_of};
 ghost use Rattle.sip_compile.specs.Compiling.{Compiles, FailsToCompile};
-ghost use Rattle.sip_compile.specs.Filing.{CountsFiles};
+ghost use Rattle.sip_compile.specs.Filing.{CountsFiles, WritesAlone};
 
 use crate::fault::CompileFault;
 use crate::filing::file_tables;
@@ -21,9 +21,9 @@ pub fn compile_program<F: Files>(
     program: &str,
     table: &str,
 ) -> Result<(), CompileFault>
-    ensures compiled { OnOk result (Compiles (Loading F.load_gives F.told F.faults F.overlong) F.told
+    ensures compiled { OnOk result (Compiles (Loading F.load_gives F.told F.faults F.overlong) (WritesAlone F.faults F.overlong) F.told
         files.old files.new program.now table.now) }
-    ensures fault { IfErr result (FailsToCompile (Loading F.load_gives F.told F.faults F.overlong) F.told F.faults
+    ensures fault { IfErr result (FailsToCompile (Loading F.load_gives F.told F.faults F.overlong) (WritesAlone F.faults F.overlong) F.told F.faults
         files.old files.new program.now table.now) }
 
     // Other files stay.

@@ -2,7 +2,6 @@
 use Rattle.std.proofs.Common.{◌≡◌, ◌≢◌, ◌∙◌, ℕ, ◌⊎◌, List, Option, subst, sym, inl, inr, arith, refl}
 use Rattle.scalar_discipline.specs.declared.fault.RuleFault.{RuleFault}
 use Rattle.shape_check.specs.declared.fault.ShapeFault.{ShapeFault}
-use Rattle.sial_parser.specs.declared.fault.ParseFault.{ParseFault}
 use Rattle.sip_compile.specs.Compiling.{Compiles, ForTable}
 use Rattle.sip_compile.specs.Filing.{IsUnfiled}
 use Rattle.sip_files.specs.Files.{Folder}
@@ -10,10 +9,11 @@ use Rattle.sip_files.specs.Loading.{LoadOf}
 use Rattle.sip_files.specs.declared.call.Call.{Call}
 use Rattle.sip_grant.specs.Loads.{IsUnread}
 use Rattle.sip_grant.specs.Names.{named, program_file}
-use Rattle.sip_grant.specs.Programs.{BreaksShape, BreaksSides}
+use Rattle.sip_grant.specs.Programs.{BreaksShape, BreaksSides, IsProgramText}
 use Rattle.sip_grant.specs.Refusals.{ForProgram, RefusesProgram}
 use Rattle.sip_grant.specs.Syntax.{IsFaultOf}
 use Rattle.sip_grant.specs.declared.refusal.Refusal.{Refusal}
+use Rattle.sial_parser.specs.declared.fault.ParseFault.{ParseFault}
 use Rattle.sip_grant.specs.declared.refusal.Refusal.TheVariants.{NoProgram, NoTree, Shape, Sides, NoInput, BadInput, Unfit, OutOfMemory}
 use Rattle.sip_grant.specs.declared.refusal.Refusal.TheVariants as no
 use Rattle.sip_driver.specs.Performed.{CompileAnswers, line_on, status_of}
@@ -27,6 +27,7 @@ neither n zero thirteen (inr e) = thirteen e
 module _
     {F : Type 0}
     (load : LoadOf F)
+    (files : (mid new : F) → Type 0)
     (told : F → Option Folder)
     (counts : F → Call → ℕ)
     (old new : F)
@@ -124,8 +125,8 @@ module _
       subst (λ (n : ℕ). says (line_of n)) (sym e) (memory_line status refusal refuses said gives e)
 
   -- A program that is refused.
-  pub compile_refused : (status : ℕ) (refusal : Refusal) → RefusesProgram load old new program refusal → says (line_on (named program table) refusal) → status ≡ status_of refusal → CompileAnswers load told counts old new program table says status
-  compile_refused status refusal refuses said gives_it = record {
+  pub compile_refused : (status : ℕ) (refusal : Refusal) → RefusesProgram load old new program refusal → says (line_on (named program table) refusal) → status ≡ status_of refusal → told new ≡ told old → CompileAnswers load files told counts old new program table says status
+  compile_refused status refusal refuses said gives_it same = record {
     done = λ e. absurd (not_done refusal (sym gives_it ∙ e));
     unread = unread status refusal refuses said gives_it;
     syntax = syntax status refusal refuses said gives_it;
@@ -134,10 +135,11 @@ module _
     memory = memory status refusal refuses gives_it;
     line = refused_line status refusal refuses said gives_it;
     answers = answers status refusal refuses gives_it;
+    kept = λ zero ten. same;
   }
 
   -- A table that was written.
-  pub compile_done : Compiles load told old new program table → says (line_of 0) → CompileAnswers load told counts old new program table says 0
+  pub compile_done : Compiles load files told old new program table → says (line_of 0) → CompileAnswers load files told counts old new program table says 0
   compile_done compiles silent = record {
     done = λ e. compiles;
     unread = λ e. absurd (omega (arith, e));
@@ -147,30 +149,33 @@ module _
     memory = λ e. absurd (omega (arith, e));
     line = λ e. silent;
     answers = inl refl;
+    kept = λ zero ten. absurd (zero refl);
   }
 
   -- A table that wasn't written whole.
-  pub compile_not_filed : (mid : F) → ForTable load old mid program (λ whole. IsUnfiled (told new) table whole (counts mid) (counts new)) → says (write_line table) → CompileAnswers load told counts old new program table says 10
-  compile_not_filed mid unfiled said = record {
+  pub compile_not_filed : (mid : F) → files mid new → ForTable load old mid program (λ whole. IsUnfiled (told new) table whole (counts mid) (counts new)) → says (write_line table) → CompileAnswers load files told counts old new program table says 10
+  compile_not_filed mid alone unfiled said = record {
     done = λ e. absurd (omega (arith, e));
     unread = λ e. absurd (omega (arith, e));
     syntax = λ e. absurd (omega (arith, e));
     rule = λ e. absurd (omega (arith, e));
-    not_filed = λ e. (mid, unfiled, said);
+    not_filed = λ e. (mid, alone, unfiled, said);
     memory = λ e. absurd (omega (arith, e));
     line = λ e. absurd (neither 10 (λ z. absurd (omega (arith, z))) (λ z. absurd (omega (arith, z))) e);
     answers = inr (inr (inr (inr (inl refl))));
+    kept = λ zero ten. absurd (ten refl);
   }
 
   -- Want of memory for the tables.
-  pub compile_starved : ForProgram load old new program (λ text. Unit {0}) → says (line_of 13) → CompileAnswers load told counts old new program table says 13
-  compile_starved read said = record {
+  pub compile_starved : ForProgram load old new program IsProgramText × (told new ≡ told old) → says (line_of 13) → CompileAnswers load files told counts old new program table says 13
+  compile_starved starved said = record {
     done = λ e. absurd (omega (arith, e));
     unread = λ e. absurd (omega (arith, e));
     syntax = λ e. absurd (omega (arith, e));
     rule = λ e. absurd (omega (arith, e));
     not_filed = λ e. absurd (omega (arith, e));
-    memory = λ e. inr (inr read);
+    memory = λ e. inr (inr (starved.0.0, starved.0.1, tt));
     line = λ e. said;
     answers = inr (inr (inr (inr (inr refl))));
+    kept = λ zero ten. starved.1;
   }

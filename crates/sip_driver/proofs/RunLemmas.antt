@@ -4,7 +4,6 @@ use Rattle.index_spaces.specs.declared.fault.SpaceFault.{SpaceFault}
 use Rattle.input_text.specs.declared.fault.InputFault.{InputFault}
 use Rattle.scalar_discipline.specs.declared.fault.RuleFault.{RuleFault}
 use Rattle.shape_check.specs.declared.fault.ShapeFault.{ShapeFault}
-use Rattle.sial_parser.specs.declared.fault.ParseFault.{ParseFault}
 use Rattle.sip_files.specs.Files.{Folder, Rose}
 use Rattle.sip_files.specs.Loading.{LoadOf, Loading}
 use Rattle.sip_files.specs.declared.call.Call.{Call}
@@ -16,6 +15,7 @@ use Rattle.sip_grant.specs.Programs.{BreaksShape, BreaksSides}
 use Rattle.sip_grant.specs.Refusals.{ForProgram, ForTexts, Refuses}
 use Rattle.sip_grant.specs.Syntax.{IsFaultOf}
 use Rattle.sip_grant.specs.declared.refusal.Refusal.{Refusal}
+use Rattle.sial_parser.specs.declared.fault.ParseFault.{ParseFault}
 use Rattle.sip_grant.specs.declared.refusal.Refusal.TheVariants.{NoProgram, NoTree, Shape, Sides, NoInput, BadInput, Unfit, OutOfMemory}
 use Rattle.sip_grant.specs.declared.refusal.Refusal.TheVariants as no
 use Rattle.sip_driver.specs.Performed.{RunAnswers, line_on, status_of}

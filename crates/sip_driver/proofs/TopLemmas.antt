@@ -5,7 +5,6 @@ use Rattle.index_spaces.specs.declared.fault.SpaceFault.{SpaceFault}
 use Rattle.input_text.specs.declared.fault.InputFault.{InputFault}
 use Rattle.scalar_discipline.specs.declared.fault.RuleFault.{RuleFault}
 use Rattle.shape_check.specs.declared.fault.ShapeFault.{ShapeFault}
-use Rattle.sial_parser.specs.declared.fault.ParseFault.{ParseFault}
 use Rattle.sip_files.specs.Files.{Folder}
 use Rattle.sip_files.specs.Loading.{LoadOf, wanted}
 use Rattle.sip_grant.specs.Granting.{HasBadInput, Misfits}
@@ -15,6 +14,7 @@ use Rattle.sip_grant.specs.Programs.{BreaksShape, BreaksSides}
 use Rattle.sip_grant.specs.Refusals.{ForProgram, ForTexts, Refuses}
 use Rattle.sip_grant.specs.Syntax.{IsFaultOf}
 use Rattle.sip_grant.specs.declared.refusal.Refusal.TheVariants.{OutOfMemory}
+use Rattle.sial_parser.specs.declared.fault.ParseFault.{ParseFault}
 use Rattle.sip_words.specs.Plain.{Spells}
 use Rattle.sip_words.specs.Requests.{compile}
 use Rattle.sip_words.specs.Seen.{texts}

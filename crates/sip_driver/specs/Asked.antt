@@ -1,9 +1,9 @@
 -- What the words of a call ask for, of what the program does today.
-use Rattle.std.specs.Prelude.{◌≡◌, ◌⊎◌, ℕ, List, None, String}
+use Rattle.std.specs.Prelude.{◌≡◌, ◌⊎◌, ℕ, ◌≤◌, List, length, None, String}
 use Rattle.std.specs.declared.alloc.Global.{Global}
 use Rattle.sip_grant.specs.Names.{Names}
 use Rattle.sip_words.specs.Asking.{IsRequest, setup_of, running_of}
-use Rattle.sip_words.specs.Plain.{Spells}
+use Rattle.sip_words.specs.Plain.{Spells, most_words}
 use Rattle.sip_words.specs.Requests.{Request, Running, Setup, compile, run}
 use Rattle.sip_words.specs.Seen.{texts}
 
@@ -18,8 +18,9 @@ usual_running = running_of (λ name. None)
 abbrev pub run_of : Names → Request
 run_of names = run names.program names.input usual_setup usual_running
 
--- words ask for a request: a plain spelling for its own, and other words for one that some command asks for
+-- words ask for a request: a plain spelling for its own, and other words, not too many, for one that some command asks for
 pub record AskFor (words : List (String Global)) (request : Request) : Type 0 where
+  pub few : length words ≤ most_words
   pub plain : (other : Request) → Spells (texts words) other → other ≡ request
   pub within : IsRequest request
 

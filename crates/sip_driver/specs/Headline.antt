@@ -1,6 +1,6 @@
 -- What `sip` promises, by the status that it answers, in the order of the README's table; the clauses of `sip` cite these parts.
 --
--- `words` are those of the call, and `load` is what one load of its files is. `old` and `new` are these files, `before` and
+-- `words` are those of the call, `load` is what one load of its files is, and `files` what writing alone does to them. `old` and `new` are these files, `before` and
 -- `after` the output, each before and after the call; `told` and `counts` are what files tell of their bytes and counts of their
 -- faults, `written` and `faults` the same of a sink. `says` is what a line that went out to the other sink is.
 use Rattle.std.specs.Prelude.{◌≡◌, ℕ, ◌⊎◌, List, Option, String}
@@ -9,13 +9,13 @@ use Rattle.index_spaces.specs.declared.fault.SpaceFault.{SpaceFault}
 use Rattle.input_text.specs.declared.fault.InputFault.{InputFault}
 use Rattle.scalar_discipline.specs.declared.fault.RuleFault.{RuleFault}
 use Rattle.shape_check.specs.declared.fault.ShapeFault.{ShapeFault}
-use Rattle.sial_parser.specs.declared.fault.ParseFault.{ParseFault}
 use Rattle.sip_compile.specs.Compiling.{Compiles, ForTable}
-use Rattle.sip_compile.specs.Filing.{IsUnfiled}
-use Rattle.sip_files.specs.Files.{Folder, Rose}
+use Rattle.sip_compile.specs.Filing.{CountsFiles, IsUnfiled}
+use Rattle.sip_files.specs.Files.{CountsOnly, Folder, Rose}
 use Rattle.sip_files.specs.Loading.{LoadOf}
 use Rattle.sip_files.specs.Writing.{others_of}
 use Rattle.sip_files.specs.declared.call.Call.{Call}
+use Rattle.sip_files.specs.declared.call.Call.TheVariants.{Load}
 use Rattle.sip_grant.specs.Granting.{HasBadInput, Misfits}
 use Rattle.sip_grant.specs.Loads.{IsFirstUnread, IsUnread, IsUnreadable}
 use Rattle.sip_grant.specs.Names.{Names, program_file, input_of, files_of}
@@ -23,6 +23,7 @@ use Rattle.sip_grant.specs.Programs.{BreaksShape, BreaksSides}
 use Rattle.sip_grant.specs.Refusals.{ForProgram, ForTexts, Refuses, RefusesProgram}
 use Rattle.sip_grant.specs.Syntax.{IsFaultOf}
 use Rattle.sip_grant.specs.declared.refusal.Refusal.TheVariants.{OutOfMemory}
+use Rattle.sial_parser.specs.declared.fault.ParseFault.{ParseFault}
 use Rattle.sip_words.specs.Plain.{Spells}
 use Rattle.sip_words.specs.Seen.{texts}
 use Rattle.sip_driver.specs.Asked.{ForCompile, ForEither, ForRun, SpellNothing, run_of}
@@ -44,18 +45,20 @@ abbrev pub Done :
     {F K : Type 0} → List (String Global) → LoadOf F → (old new : F) → (written : K → Option (List ℕ)) → (before after : K) → Type 0
 Done words load old new written before after = Texts words load old new (Prints (written before) (written after))
 
--- 0 as well: the program was read, it keeps the rules, and its table's file has exactly the bytes of its tables; no output
+-- 0 as well: the program was read, it keeps the rules, behind it nothing but the table was written, and the table's file has exactly the bytes
+-- of the program's tables; no output
 abbrev pub Compiled :
     {F K : Type 0}
     → List (String Global)
     → LoadOf F
+    → (files : (mid new : F) → Type 0)
     → (told : F → Option Folder)
     → (old new : F)
     → (written : K → Option (List ℕ))
     → (before after : K)
     → Type 0
-Compiled words load told old new written before after =
-    ForCompile words (λ program table. Compiles load told old new program table) × (written after ≡ written before)
+Compiled words load files told old new written before after =
+    ForCompile words (λ program table. Compiles load files told old new program table) × (written after ≡ written before)
 
 -- 1: only where the words spell nothing plainly that the program does
 abbrev pub IsUsage : List (String Global) → Type 0
@@ -127,6 +130,7 @@ abbrev pub NotFiled :
     {F K : Type 0}
     → List (String Global)
     → LoadOf F
+    → (files : (mid new : F) → Type 0)
     → (told : F → Option Folder)
     → (counts : F → Call → ℕ)
     → (old new : F)
@@ -134,9 +138,12 @@ abbrev pub NotFiled :
     → (before after : K)
     → (says : List ℕ → Type 0)
     → Type 0
-NotFiled {F} words load told counts old new written before after says =
+NotFiled {F} words load files told counts old new written before after says =
     ForCompile words (λ program table.
-    (mid : F) × ForTable load old mid program (λ whole. IsUnfiled (told new) table whole (counts mid) (counts new)) × says (write_line table))
+    (mid : F)
+    × files mid new
+    × ForTable load old mid program (λ whole. IsUnfiled (told new) table whole (counts mid) (counts new))
+    × says (write_line table))
     × (written after ≡ written before)
 
 -- 13: memory ran out: before any file was loaded; in or behind a load, with the output as it was; while a program ran, with a first part
@@ -158,3 +165,7 @@ IsAnswer status =
 -- files tell what they told, unless the words ask for a table: then its file alone may have changed
 abbrev pub KeepsOthers : List (String Global) → (old new : Option Folder) → Type 0
 KeepsOthers words old new = (new ≡ old) ⊎ ForCompile words (λ program table. others_of new table ≡ others_of old table)
+
+-- of the files' counts none falls and that of loads alone may rise, unless the words ask for a table: then those of clearing and adding may too
+abbrev pub CountsOf : List (String Global) → (before now : Call → ℕ) → Type 0
+CountsOf words before now = CountsOnly Load before now ⊎ ForCompile words (λ program table. CountsFiles before now)

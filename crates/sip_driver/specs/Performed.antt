@@ -5,7 +5,6 @@ use Rattle.index_spaces.specs.declared.fault.SpaceFault.{SpaceFault}
 use Rattle.input_text.specs.declared.fault.InputFault.{InputFault}
 use Rattle.scalar_discipline.specs.declared.fault.RuleFault.{RuleFault}
 use Rattle.shape_check.specs.declared.fault.ShapeFault.{ShapeFault}
-use Rattle.sial_parser.specs.declared.fault.ParseFault.{ParseFault}
 use Rattle.sial_syntax.specs.Tree.{tree}
 use Rattle.sip_compile.specs.Compiling.{Compiles, ForTable}
 use Rattle.sip_compile.specs.Filing.{IsUnfiled}
@@ -20,6 +19,7 @@ use Rattle.sip_grant.specs.Programs.{BreaksShape, BreaksSides}
 use Rattle.sip_grant.specs.Refusals.{ForProgram, ForTexts, Refuses, RefusesProgram}
 use Rattle.sip_grant.specs.Syntax.{IsFaultOf}
 use Rattle.sip_grant.specs.declared.refusal.Refusal.{Refusal}
+use Rattle.sial_parser.specs.declared.fault.ParseFault.{ParseFault}
 use Rattle.sip_grant.specs.declared.refusal.Refusal.TheVariants as no
 use Rattle.sip_setting.specs.Printing.{printed_text}
 use Rattle.sip_setting.specs.Seen.{setting_of}
@@ -130,20 +130,25 @@ pub record RunAnswers
 pub record CompileAnswers
     {F : Type 0}
     (load : LoadOf F)
+    (files : (mid new : F) → Type 0)
     (told : F → Option Folder)
     (counts : F → Call → ℕ)
     (old new : F)
     (program table : List ℕ)
     (says : List ℕ → Type 0)
     (status : ℕ) : Type 0 where
-  pub done : status ≡ 0 → Compiles load told old new program table
+  pub done : status ≡ 0 → Compiles load files told old new program table
   pub unread : status ≡ 2 → IsUnread load old new (program_file program) × says (read_line program)
   pub syntax : status ≡ 3 → (fault : ParseFault) × ForProgram load old new program (λ text. IsFaultOf text fault) × says (syntax_line fault)
   pub rule : status ≡ 4
       → ((fault : ShapeFault) × ForProgram load old new program (λ text. BreaksShape text fault) × says (shape_line fault))
       ⊎ ((fault : RuleFault) × ForProgram load old new program (λ text. BreaksSides text fault) × says (side_line fault))
   pub not_filed : status ≡ 10
-      → (mid : F) × ForTable load old mid program (λ whole. IsUnfiled (told new) table whole (counts mid) (counts new)) × says (write_line table)
+      → (mid : F)
+      × files mid new
+      × ForTable load old mid program (λ whole. IsUnfiled (told new) table whole (counts mid) (counts new))
+      × says (write_line table)
   pub memory : status ≡ 13 → RefusesProgram load old new program no.OutOfMemory
   pub line : (status ≡ 0) ⊎ (status ≡ 13) → says (line_of status)
   pub answers : (status ≡ 0) ⊎ ((status ≡ 2) ⊎ ((status ≡ 3) ⊎ ((status ≡ 4) ⊎ ((status ≡ 10) ⊎ (status ≡ 13)))))
+  pub kept : status ≢ 0 → status ≢ 10 → told new ≡ told old

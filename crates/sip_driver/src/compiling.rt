@@ -1,7 +1,7 @@
 //! `sip compile`: a program's table, and the line of what stops it.
 
 ghost use Rattle.std.specs.Prelude.{◌≡◌, ◌≤◌};
-ghost use Rattle.sip_compile.specs.Filing.{CountsFiles};
+ghost use Rattle.sip_compile.specs.Filing.{CountsFiles, WritesAlone};
 ghost use Rattle.sip_files.specs.Loading.{Loading};
 ghost use Rattle.sip_files.specs.Writing.{others_of};
 ghost use Rattle.sip_driver.specs.Performed.{CompileAnswers};
@@ -23,7 +23,7 @@ pub fn compile_command<F: Files, K: Sink>(
     files: &mut F,
     err: &mut K,
 ) -> Status
-    ensures answers { CompileAnswers (Loading F.load_gives F.told F.faults F.overlong) F.told F.faults files.old files.new
+    ensures answers { CompileAnswers (Loading F.load_gives F.told F.faults F.overlong) (WritesAlone F.faults F.overlong) F.told F.faults files.old files.new
         program.now table.now (Says K.written K.faults err.old err.new) result.0 }
 
     ensures others { others_of (F.told files.new) table.now ≡ others_of (F.told files.old) table.now }

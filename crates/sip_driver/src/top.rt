@@ -1,10 +1,10 @@
 //! The top call.
 
 ghost use Rattle.std.specs.Prelude.{◌≡◌, ◌≢◌, ◌≤◌, ◌⊎◌};
-ghost use Rattle.sip_compile.specs.Filing.{CountsFiles};
+ghost use Rattle.sip_compile.specs.Filing.{WritesAlone};
 ghost use Rattle.sip_files.specs.Loading.{Loading};
 ghost use Rattle.sip_driver.specs.Headline.{Done, Compiled, IsUsage, Unread, RefusesUnreadable, Unparsed, NotFirst, Misshapen, Missided};
-ghost use Rattle.sip_driver.specs.Headline.{Misread, Unfit, NotWritten, NotFiled, NoMemory, IsAnswer, KeepsOthers};
+ghost use Rattle.sip_driver.specs.Headline.{Misread, Unfit, NotWritten, NotFiled, NoMemory, IsAnswer, KeepsOthers, CountsOf};
 ghost use Rattle.sip_driver.specs.Says.{Says, line_of};
 
 use crate::compiling::compile_command;
@@ -30,7 +30,7 @@ pub fn sip<F: Files, K: Sink>(
     // By status, as the headline says it.
     ensures done { result.0 ≡ 0
         → Done words.now (Loading F.load_gives F.told F.faults F.overlong) files.old files.new K.written out.old out.new
-        ⊎ Compiled words.now (Loading F.load_gives F.told F.faults F.overlong) F.told files.old files.new K.written out.old out.new }
+        ⊎ Compiled words.now (Loading F.load_gives F.told F.faults F.overlong) (WritesAlone F.faults F.overlong) F.told files.old files.new K.written out.old out.new }
     ensures usage { result.0 ≡ 1 → IsUsage words.now }
     ensures unread { result.0 ≡ 2 → Unread words.now (Loading F.load_gives F.told F.faults F.overlong)
         files.old files.new (Says K.written K.faults err.old err.new) }
@@ -49,13 +49,14 @@ pub fn sip<F: Files, K: Sink>(
         ⊎ Unfit words.now (Loading F.load_gives F.told F.faults F.overlong) files.old files.new (Says K.written K.faults err.old err.new) }
     ensures not_written { result.0 ≡ 10
         → NotWritten words.now (Loading F.load_gives F.told F.faults F.overlong) files.old files.new K.written K.faults out.old out.new (Says K.written K.faults err.old err.new)
-        ⊎ NotFiled words.now (Loading F.load_gives F.told F.faults F.overlong) F.told F.faults files.old files.new K.written out.old out.new (Says K.written K.faults err.old err.new) }
+        ⊎ NotFiled words.now (Loading F.load_gives F.told F.faults F.overlong) (WritesAlone F.faults F.overlong) F.told F.faults files.old files.new K.written out.old out.new (Says K.written K.faults err.old err.new) }
     ensures memory { result.0 ≡ 13 → NoMemory words.now (Loading F.load_gives F.told F.faults F.overlong)
         files.old files.new K.written out.old out.new }
     ensures answers { IsAnswer result.0 }
 
-    // Other words touch no file, and all refusals leave the output as it was.
+    // Other words touch no file, and all refusals leave told files and the output as they were.
     ensures usage_files { result.0 ≡ 1 → files.new ≡ files.old }
+    ensures refused_files { result.0 ≢ 0 → result.0 ≢ 10 → F.told files.new ≡ F.told files.old }
     ensures refused_kept { result.0 ≢ 0 → result.0 ≢ 10 → result.0 ≢ 13 → K.written out.new ≡ K.written out.old }
 
     // The line of a status that tells no more than the status; the other lines stand above.
@@ -63,7 +64,7 @@ pub fn sip<F: Files, K: Sink>(
         → Says K.written K.faults err.old err.new (line_of result.0) }
 
     ensures others { KeepsOthers words.now (F.told files.old) (F.told files.new) }
-    ensures counts { CountsFiles (F.faults files.old) (F.faults files.new) }
+    ensures counts { CountsOf words.now (F.faults files.old) (F.faults files.new) }
     ensures loans { F.loans files.new ≡ F.loans files.old }
     ensures out_never_falls { K.faults out.old ≤ K.faults out.new }
     ensures out_kept { K.kept out.new ≡ K.kept out.old }

@@ -1,8 +1,8 @@
 -- What loads one after another show of the texts that they read.
 use Rattle.std.proofs.Common.{◌≡◌, ℕ, List, [], ◌∷◌, Ok, inl, inr, refl, sym, subst}
 use Rattle.sip_files.specs.Loading.{LoadOf}
-use Rattle.input_text.specs.Texts.{IsInputOf}
 use Rattle.sial_parser.specs.Words.{IsTextOf}
+use Rattle.input_text.specs.Texts.{IsInputOf}
 use Rattle.sial_syntax.specs.Tree.{Tree, tree}
 use Rattle.sip_grant.specs.Granting.{IsGrantedFor}
 use Rattle.sip_grant.specs.Loads.{IsUnread, IsStarved, AreRead}
@@ -88,7 +88,7 @@ refuses_texts load old mid new program input text given_text r (Unfit fault) loa
   },
 )
 refuses_texts load old mid new program input text given_text r OutOfMemory loaded is again blames =
-    inr (inr (text, mid, loaded, inr (inr (given_text, new, again, refl))))
+    inr (inr (text, mid, loaded, inr ((tree r.program, record { text_is = is.text_is; rules = is.kept.rules }), inr (inr (given_text, new, again, inl refl)))))
 
 -- An input that isn't read, behind a program that keeps the rules.
 pub no_input :
@@ -112,10 +112,13 @@ pub starved :
     (old mid new : F)
     (program input : List ℕ)
     (text : List ℕ)
+    (r : Ruled)
     → load old (program_file program) (Ok tt) text mid
+    → IsRuled text r
     → IsStarved load mid new (input_of (named program input))
     → Refuses load old new (named program input) OutOfMemory
-starved load old mid new program input text loaded starves = inr (inr (text, mid, loaded, inr (inl starves)))
+starved load old mid new program input text r loaded is starves =
+    inr (inr (text, mid, loaded, inr ((tree r.program, record { text_is = is.text_is; rules = is.kept.rules }), inr (inl starves))))
 
 -- What is blamed in the text of the program refuses it.
 pub refuses_program :

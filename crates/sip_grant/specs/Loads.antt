@@ -47,13 +47,14 @@ IsFirstUnread {F} load old new (x ∷ rest) name =
     ((name ≡ x.file.name) × IsUnread load old new x.file)
     ⊎ ((text : List ℕ) × (next : F) × load old x.file (Ok tt) text next × Holds x.content text × IsFirstUnread load next new rest name)
 
--- memory ran out in or beside a load: the files before it were read, in this order, and none behind it was loaded
+-- memory ran out in a load, or before or behind one: the files before it were read, in this order, and hold what is asked of them, and none
+-- behind it was loaded
 abbrev pub RanOut : {F : Type 0} → LoadOf F → (old new : F) → List Reads → Type 0
 RanOut {F} load old new [] = new ≡ old
 RanOut {F} load old new (x ∷ rest) =
     (new ≡ old)
     ⊎ (IsStarved load old new x.file
-    ⊎ ((text : List ℕ) × (next : F) × load old x.file (Ok tt) text next × RanOut load next new rest))
+    ⊎ ((text : List ℕ) × (next : F) × load old x.file (Ok tt) text next × ((new ≡ next) ⊎ (Holds x.content text × RanOut load next new rest))))
 
 -- a told file can't be read: it is missing, or longer than its limit
 abbrev pub IsUnreadable : Option Folder → Wanted → Type 0

@@ -10,3 +10,16 @@ pub mod BodiesAgain
 pub mod NamesAgain
 pub mod TablesAgain
 pub mod Passed
+pub mod OutlineLemmas
+pub mod NestingRuns
+pub mod NestingFound
+pub mod NestingFaults
+pub mod InLemmas
+pub mod JumpEnds
+pub mod JumpWalk
+pub mod JumpFaults
+pub mod FirstOf
+pub mod StartEnds
+pub mod TargetLemmas
+pub mod OutsideLemmas
+pub mod NumberLemmas

@@ -32,7 +32,7 @@ use Rattle.table_verify.proofs.NamesAgain.{FitsRange}
 use Rattle.table_verify.proofs.TablesAgain.{tables_again}
 
 -- two tests together
-together : (a b : Bool) → a ≡ true → b ≡ true → (a && b) ≡ true
+pub together : (a b : Bool) → a ≡ true → b ≡ true → (a && b) ≡ true
 together a b e f = rw (e, f) refl
 
 appended : {X : Type 0} (p : X → Bool) (xs ys : List X) → list_all p xs ≡ true → list_all p ys ≡ true → list_all p (xs ++ ys) ≡ true
@@ -92,7 +92,7 @@ all_visited p h =
 
 -- ---- what passes is proper
 
-at_most : (a b : ℕ) → nat_le a b ≡ true → a ≤ b
+pub at_most : (a b : ℕ) → nat_le a b ≡ true → a ≤ b
 at_most a b is = grind (arith, nat_tests)
 
 below : (a b : ℕ) → nat_lt a b ≡ true → a < b
@@ -108,7 +108,7 @@ procedures_proper p (q ∷ qs) h shallow =
     let c = both (is_name q.name) (proper_body p q.body) b.0 in
     together (proper_procedure p q) (list_all (proper_procedure p) qs) (together (is_name q.name) (proper_depth p q.body) c.0 (deep p q.body c.1 shallow.0)) (procedures_proper p qs b.1 shallow.1)
 
-passed : (p : Tree) → passes p ≡ true → all_numbers p ≡ true → IsShallowTree p → IsProper p
+pub passed : (p : Tree) → passes p ≡ true → all_numbers p ≡ true → IsShallowTree p → IsProper p
 passed p h numbers shallow =
     let a = both (passes_lists p) (passes_names p && (passes_bodies p && nat_le (all_statements p) most_statements)) h in
     let b = both (passes_names p) (passes_bodies p && nat_le (all_statements p) most_statements) a.1 in
@@ -150,7 +150,7 @@ range_fits : (place : ℕ) (r : Range) → place ≤ most_names → proper_range
 range_fits place (range.Segments kind lo hi) few h = tt
 range_fits place (range.Sub super) few h = let s = below super place h in lt-ltb super (2 ^ 16) (omega (arith, s, few))
 
-indices_fit : (k : ℕ) (ds : List IndexDecl) → k + length ds ≤ most_names → list_all proper_index (enumerate_from k ds) ≡ true → AllByRecursion (λ (d : IndexDecl). FitsRange d.range) ds
+pub indices_fit : (k : ℕ) (ds : List IndexDecl) → k + length ds ≤ most_names → list_all proper_index (enumerate_from k ds) ≡ true → AllByRecursion (λ (d : IndexDecl). FitsRange d.range) ds
 indices_fit k [] few h = tt
 indices_fit k (d ∷ ds) few h =
     let b = both (proper_index (k, d)) (list_all proper_index (enumerate_from (k + 1) ds)) h in
@@ -158,7 +158,7 @@ indices_fit k (d ∷ ds) few h =
     let e = both (is_line d.line) (proper_range k d.range) c.1 in
     (range_fits k d.range (omega (arith, few)) e.1, indices_fit (k + 1) ds (omega (arith, few)) b.1)
 
-proper_passes : (p : Tree) → IsProper p → passes p ≡ true
+pub proper_passes : (p : Tree) → IsProper p → passes p ≡ true
 proper_passes p h =
     let ps = procedures_pass p p.procedures h.procedures in
     let body = both (proper_body p p.body) (nat_le (body_nesting p.body) most_nesting) h.body in

@@ -98,7 +98,7 @@ all_again entries most k front at text (q ∷ qs) code texts starts shallow smal
 -- ---- the name and what is declared
 
 -- a program with no statement yet
-abbrev headed : Tree → Tree
+abbrev pub headed : Tree → Tree
 headed p = record p { procedures = map emptied p.procedures; body = End }
 
 first_text : (t : Lists) (x : List ℕ) (rest : List (List ℕ)) → t.texts ≡ x ∷ rest → text (start t) ≡ Some (x, state 0 1 t.code rest)
@@ -114,13 +114,15 @@ length-entries_from : (at : ℕ) (qs : List Procedure) → length (entries_from 
 length-entries_from at [] = refl
 length-entries_from at (q ∷ qs) = ap suc (length-entries_from (at + procedure_size q) qs)
 
-heads_again : (p : Tree) → AllByRecursion (λ (d : IndexDecl). FitsRange d.range) p.indices → heads (flatten p) ≡ Some (headed p, state 0 (length (names p)) (flatten p).code (printed p))
-heads_again p fits =
-    let t = flatten p in
+-- tables that declare what a program does, with any first instructions, code and further texts
+pub heads_of : (p : Tree) (entries : List ℕ) (code : List Instruction) (out : List (List ℕ)) → AllByRecursion (λ (d : IndexDecl). FitsRange d.range) p.indices → length entries ≡ length p.procedures
+    → heads (record { texts = names p ++ out; indices = (flatten p).indices; arrays = (flatten p).arrays; scalars = (flatten p).scalars; procedures = procedure_entries (length (scalar_names p)) entries; code = code })
+    ≡ Some (headed p, state 0 (length (names p)) code out)
+heads_of p entries code out fits many =
+    let t : Lists = record { texts = names p ++ out; indices = (flatten p).indices; arrays = (flatten p).arrays; scalars = (flatten p).scalars; procedures = procedure_entries (length (scalar_names p)) entries; code = code } in
     let is = flat_map index_texts p.indices in
     let ars = map (λ (a : ArrayDecl). a.name) p.arrays in
     let ns = map (λ (q : Procedure). q.name) p.procedures in
-    let out = printed p in
     let split : (((is ++ ars) ++ p.scalars) ++ ns) ++ out ≡ is ++ (ars ++ (p.scalars ++ (ns ++ out))) =
     append_assoc ((is ++ ars) ++ p.scalars) ns out ∙ append_assoc (is ++ ars) p.scalars (ns ++ out) ∙ append_assoc is ars (p.scalars ++ (ns ++ out)) in
     let s1 = length-append is ars in
@@ -131,10 +133,13 @@ heads_again p fits =
     let n3 : length (array_names p) + length p.scalars ≡ length (scalar_names p) = omega (arith, s2) in
     let n4 : length (scalar_names p) + length ns ≡ length (names p) = omega (arith, s3) in
     heads_by t p.name p.indices p.arrays p.scalars (map emptied p.procedures) _ _ _ _ _ (first_text t p.name (is ++ (ars ++ (p.scalars ++ (ns ++ out)))) (ap (λ (x : List (List ℕ)). p.name ∷ x) split))
-    (indices_again [] 0 1 p.indices t.code (ars ++ (p.scalars ++ (ns ++ out))) fits ∙ ap (λ (n : ℕ). Some (p.indices, state 0 n t.code (ars ++ (p.scalars ++ (ns ++ out))))) n1)
-    (arrays_again [] 0 (length (index_names p)) p.arrays t.code (p.scalars ++ (ns ++ out)) ∙ ap (λ (n : ℕ). Some (p.arrays, state 0 n t.code (p.scalars ++ (ns ++ out)))) n2)
-    (scalars_again [] 0 (length (array_names p)) p.scalars t.code (ns ++ out) ∙ ap (λ (n : ℕ). Some (p.scalars, state 0 n t.code (ns ++ out))) n3)
-    (procedures_again [] 0 (length (scalar_names p)) (entries_of p) p.procedures t.code out (length-entries_from (sizes p.body + 1) p.procedures) ∙ ap (λ (n : ℕ). Some (map emptied p.procedures, state 0 n t.code out)) n4)
+    (indices_again [] 0 1 p.indices code (ars ++ (p.scalars ++ (ns ++ out))) fits ∙ ap (λ (n : ℕ). Some (p.indices, state 0 n code (ars ++ (p.scalars ++ (ns ++ out))))) n1)
+    (arrays_again [] 0 (length (index_names p)) p.arrays code (p.scalars ++ (ns ++ out)) ∙ ap (λ (n : ℕ). Some (p.arrays, state 0 n code (p.scalars ++ (ns ++ out)))) n2)
+    (scalars_again [] 0 (length (array_names p)) p.scalars code (ns ++ out) ∙ ap (λ (n : ℕ). Some (p.scalars, state 0 n code (ns ++ out))) n3)
+    (procedures_again [] 0 (length (scalar_names p)) entries p.procedures code out many ∙ ap (λ (n : ℕ). Some (map emptied p.procedures, state 0 n code out)) n4)
+
+heads_again : (p : Tree) → AllByRecursion (λ (d : IndexDecl). FitsRange d.range) p.indices → heads (flatten p) ≡ Some (headed p, state 0 (length (names p)) (flatten p).code (printed p))
+heads_again p fits = heads_of p (entries_of p) (flatten p).code (printed p) fits (length-entries_from (sizes p.body + 1) p.procedures)
 
 -- ---- statements
 

@@ -6,3 +6,15 @@ pub mod Reading
 pub mod Numbers
 pub mod Passing
 pub mod Answers
+pub mod Outline
+pub mod Faults
+pub mod Nesting
+pub mod NestSeen
+pub mod Jumps
+pub mod JumpFaults
+pub mod Jumping
+pub mod TargetFaults
+pub mod Starting
+pub mod Things
+pub mod NumberFaults
+pub mod Numbering

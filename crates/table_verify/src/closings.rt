@@ -10,8 +10,8 @@ use sial_syntax::Cond;
 use sip_tables::Operation;
 use std::alloc::Global;
 
-// Whether an operation begins a statement.
-fn begins(operation: &Operation) -> bool
+/// Whether an operation begins a statement.
+pub fn begins(operation: &Operation) -> bool
     ensures { result ≡ spec.begins operation.now }
 {
     !matches!(

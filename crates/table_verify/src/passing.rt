@@ -6,6 +6,7 @@ ghost use Rattle.sial_syntax.specs.Names.{is_name as spec_is_name};
 ghost use Rattle.sial_syntax.specs.Numbering.{statements as statements_of, statements_in};
 ghost use Rattle.sial_syntax.specs.Proper as proper;
 ghost use Rattle.sial_syntax.specs.Tree.{block, plain_form, procedure as spec_procedure, tree};
+ghost use Rattle.table_verify.specs.Numbering as heads;
 ghost use Rattle.table_verify.specs.Passing as spec;
 
 use crate::names::is_name;
@@ -21,6 +22,15 @@ pub fn passes(program: &Program) -> Result<bool, OutOfMemory>
 {
     let count = all_statements(program)?;
     Ok(passes_lists(program) && passes_names(program) && passes_bodies(program) && count <= 65535)
+}
+
+/// Whether a program's name and what it declares is proper.
+pub fn passes_heads(program: &Program) -> bool
+    ensures { result ≡ heads.passes_heads (tree program.now) }
+{
+    passes_lists(program)
+        && passes_names(program)
+        && has_procedures(program, program.procs.as_slice())
 }
 
 // Whether no list is longer than it may be.

@@ -80,9 +80,9 @@ fn entries(alloc: Global, procedures: &[ProcedureEntry]) -> Result<Vec<u32>, All
     Ok(entries)
 }
 
-// The program's name and what it declares, with no statement yet.
+/// The program's name and what it declares, with no statement yet.
 #[tactic(auto, unfolding(crate::specs::Reading::heads))]
-fn heads(alloc: Global, tables: &Tables) -> Result<(Program, Rest<'_>), VerifyFault>
+pub fn heads(alloc: Global, tables: &Tables) -> Result<(Program, Rest<'_>), VerifyFault>
     ensures { Gives (λ x. (tree x.0, seen x.1)) result (spec.heads tables.now) }
 {
     let start = Rest {

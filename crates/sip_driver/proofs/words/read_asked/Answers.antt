@@ -6,7 +6,7 @@ use Rattle.sip_driver.proofs.words.read_asked.Goals as goal
 
 pub returns-in-Ok-clause-asks : goal.returns-in-Ok-clause-asks
 returns-in-Ok-clause-asks c =
-    answer_asks c.built.result c.args.words.now (seen c.in-Ok.request) c.in-Ok.ensures.plain c.in-Ok.ensures.within c.built.ensures.same
+    answer_asks c.built.result c.args.words.now (seen c.in-Ok.request) c.in-Ok.ensures.many c.in-Ok.ensures.plain c.in-Ok.ensures.within c.built.ensures.same
 
 pub returns-in-Ok-clause-nothing : goal.returns-in-Ok-clause-nothing
 returns-in-Ok-clause-nothing c =

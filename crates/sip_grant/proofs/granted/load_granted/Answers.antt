@@ -42,4 +42,4 @@ returns-clause-refused g c =
     let load = Loading g.F.Files.load_gives g.F.Files.told g.F.Files.faults g.F.Files.overlong in
     let found = c.in-Ok.ensures.ruled in
     starved load c.args.files.now c.load_program.new.files c.load_text.new.files c.args.program.now c.args.input.now
-    found.0 found.1 (c.in-Err-OutOfMemory.ensures.memory (search rules))
+    found.0 c.in-Ok.ruled found.1 found.2 (c.in-Err-OutOfMemory.ensures.memory (search rules))

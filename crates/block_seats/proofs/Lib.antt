@@ -1,0 +1,6 @@
+pub mod LeavingLemmas
+pub mod SeatLemmas
+pub mod PuttingLemmas
+pub mod ClosingLemmas
+pub mod CountLemmas
+pub mod Laws

@@ -1,0 +1,4 @@
+pub mod Seated
+pub mod Counted
+pub mod Leaving
+pub mod Putting

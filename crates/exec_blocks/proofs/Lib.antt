@@ -1,0 +1,11 @@
+pub mod RowLemmas
+pub mod PlaceLemmas
+pub mod PutLemmas
+pub mod SettingLemmas
+pub mod ReadingLemmas
+pub mod PutDownLemmas
+pub mod AnswerLemmas
+pub mod SeenLemmas
+pub mod ClearLemmas
+pub mod UnsetLemmas
+pub mod NamedLemmas

@@ -1,0 +1,13 @@
+pub mod RowLemmas
+pub mod NestLemmas
+pub mod StandLemmas
+pub mod LedLemmas
+pub mod LoopArms
+pub mod BranchArms
+pub mod CallArms
+pub mod LoopLemmas
+pub mod StartLemmas
+pub mod WaitLemmas
+pub mod WhereLemmas
+pub mod PardoLemmas
+pub mod GrantedLemmas

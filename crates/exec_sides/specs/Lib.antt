@@ -1,0 +1,11 @@
+pub mod Seen
+pub mod Named
+pub mod Met
+pub mod Joined
+pub mod Parts
+pub mod Contracting
+pub mod Axes
+pub mod Fits
+pub mod Short
+pub mod Forgetting
+pub mod Once

@@ -1,0 +1,6 @@
+mod ArithmeticLemmas
+mod PieceLemmas
+mod CalledLemmas
+mod SumLemmas
+mod CuttingLemmas
+mod ReadLemmas

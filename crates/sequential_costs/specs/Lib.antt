@@ -1,0 +1,3 @@
+pub mod Cuttings
+pub mod Called
+pub mod Over

@@ -1,0 +1,11 @@
+//! What a checker of the epoch rule takes at most: how many steps.
+#![tactic(auto)]
+
+mod arithmetic;
+mod cutting;
+mod procedures;
+mod reads;
+mod statements;
+mod steps;
+
+pub use steps::sequential_steps;
