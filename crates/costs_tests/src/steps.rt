@@ -25,11 +25,7 @@ const AO: &[u8] = b"segments ao 2 5\nsubsegment ao 2\n";
 fn steps_are_those_counted_by_hand(rt: HostRuntime) {
     for (program, input, counted) in [
         // nothing
-        (
-            b"sial n\nendsial n\n".as_slice(),
-            b"".as_slice(),
-            0,
-        ),
+        (b"sial n\nendsial n\n".as_slice(), b"".as_slice(), 0),
         // two turns over four statements
         (
             b"sial n\naoindex i = 1, 2\nstatic a(i)\nscalar s\ndo i\na(i) = 3\na(i) += a(i)\ns = a(i) * a(i)\nexecute print_scalar s\nenddo i\nendsial n\n",
@@ -79,6 +75,9 @@ const SIX: &[u8] =
 
 #[test]
 fn a_number_above_the_limit_is_the_next_one(rt: HostRuntime) {
-    assert_eq!(rt; steps(&rt, rt.alloc(), FIVE, b""), 1_153_484_592_032_784_385);
+    assert_eq!(rt;
+        steps(&rt, rt.alloc(), FIVE, b""),
+        1_153_484_592_032_784_385
+    );
     assert_eq!(rt; steps(&rt, rt.alloc(), SIX, b""), 4_611_686_018_427_387_905);
 }

@@ -1,7 +1,7 @@
 //! Assignments to blocks, each form of right side once.
 
-use exec_sides::{Seen, Shape, Side, Term, assign};
 use exec_names::Extent;
+use exec_sides::{Seen, Shape, Side, Term, assign};
 use sial_syntax::{Bin, Op};
 
 // What the indices m, n, l and mm lie on; their numbers are 0, 1, 2 and 3.

@@ -1,7 +1,7 @@
 //! Right sides for scalars, and integrals.
 
-use exec_sides::{Seen, Shape, Side, Term, integrals, number};
 use exec_names::Extent;
+use exec_sides::{Seen, Shape, Side, Term, integrals, number};
 use sial_syntax::Bin;
 
 // What the indices n and l lie on; their numbers are 1 and 2.

@@ -20,7 +20,10 @@ fn a_range_has_segments_of_its_kind(rt: HostRuntime) -> Result<(), Fail> {
             b"aoindex i = 1, 18446744073709551615\n",
             Some((SpaceKind::NoSegment, b'i', u64::MAX)),
         ),
-        (b"moaindex i = 1, 1\n", Some((SpaceKind::NoSegment, b'i', 0))),
+        (
+            b"moaindex i = 1, 1\n",
+            Some((SpaceKind::NoSegment, b'i', 0)),
+        ),
         (b"index i = 1, 4096\n", None),
         (
             b"index i = 1, 4097\n",
@@ -68,10 +71,7 @@ fn arrays_are_not_too_large(rt: HostRuntime) -> Result<(), Fail> {
             b"aoindex i = 1, 1\naoindex j = 1, 2\ntemp a(i,j)\n",
             Some((SpaceKind::BlockTooWide, b'a', 65792)),
         ),
-        (
-            b"index k = 1, 1024\nindex l = 1, 4096\ntemp a(k,l)\n",
-            None,
-        ),
+        (b"index k = 1, 1024\nindex l = 1, 4096\ntemp a(k,l)\n", None),
         (b"index k = 1, 1024\nstatic a(k,k)\n", None),
         (
             b"index k = 1, 1024\nindex l = 1, 4096\nstatic a(k,l)\n",
@@ -97,8 +97,7 @@ const SCALARS: &[u8] =
     b"index i = 1, 1\nscalar x\nscalar y\nscalar z\npardo i\ny = 1\nz += 1\nendpardo i\n";
 
 // Blocks with one position at segment 3, and three at segment 2, of a static, a served, a temp and a distributed array.
-const BLOCKS: &[u8] =
-    b"aoindex i = 2, 3\nstatic a(i)\nserved v(i)\ntemp t(i)\ndistributed d(i)\n";
+const BLOCKS: &[u8] = b"aoindex i = 2, 3\nstatic a(i)\nserved v(i)\ntemp t(i)\ndistributed d(i)\n";
 
 #[test]
 fn start_values_have_places(rt: HostRuntime) -> Result<(), Fail> {

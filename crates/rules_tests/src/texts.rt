@@ -39,7 +39,9 @@ pub fn misfit(
     text.extend_from_slice(b"endsial n\n")?;
     let given = read_input(alloc, input).ok().ok_or("it is an input")?;
     let program = parse(alloc, text.as_slice()).ok().ok_or("it is a program")?;
-    let classes = classify(alloc, &program).ok().ok_or("it keeps the side rules")?;
+    let classes = classify(alloc, &program)
+        .ok()
+        .ok_or("it keeps the side rules")?;
     match resolve(alloc, &program, &classes, &given) {
         Ok(_) => Ok(None),
         Err(SpaceFault { kind, name, value }) => {
