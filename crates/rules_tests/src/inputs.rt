@@ -92,6 +92,21 @@ pub fn index(
     })
 }
 
+/// An index of ao from 1 to a constant.
+pub fn index_to(alloc: Global, name: &[u8], constant: &[u8]) -> Result<IndexDecl, AllocError> {
+    let name = Text::from_slice(alloc, name)?;
+    let constant = Text::from_slice(alloc, constant)?;
+    Ok(IndexDecl {
+        name,
+        line: 2,
+        range: Range::Segments {
+            kind: Kind::Ao,
+            lo: Bound::Number(1),
+            hi: Bound::Named(constant),
+        },
+    })
+}
+
 /// A subindex.
 pub fn sub(alloc: Global, name: &[u8], super_index: u16) -> Result<IndexDecl, AllocError> {
     Ok(IndexDecl {

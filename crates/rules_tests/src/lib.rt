@@ -20,6 +20,4 @@ mod side_faults;
 #[cfg(test)]
 mod space_faults;
 #[cfg(test)]
-mod space_order;
-#[cfg(test)]
 mod texts;

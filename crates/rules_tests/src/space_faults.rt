@@ -1,195 +1,343 @@
 //! What inputs are refused for, and which refusal comes first.
 
-use crate::texts::misfit;
+use crate::building::{get, one, two};
+use crate::inputs::{
+    array, block_line, index, index_to, input, program, refused, scalar_line, sub,
+};
 use index_spaces::SpaceKind;
+use sial_syntax::{ArrayKind, Form, Kind, Slot, Stmt};
 use std::test::Fail;
-
-// A constant, three segments of ao in pieces of 2, two of mo in no pieces.
-const INPUT: &[u8] = b"const n = 3\nsegments ao 2 3 1\nsegments mo 4 1\nsubsegment ao 2\n";
 
 #[test]
 fn a_range_has_segments_of_its_kind(rt: HostRuntime) -> Result<(), Fail> {
-    for (lines, want) in [
-        (b"aoindex i = 1, 3\n".as_slice(), None),
-        (b"aoindex i = 1, 4\n", Some((SpaceKind::NoSegment, b'i', 4))),
-        (b"aoindex i = 0, 3\n", Some((SpaceKind::NoSegment, b'i', 0))),
-        (b"aoindex i = 0, 9\n", Some((SpaceKind::NoSegment, b'i', 0))),
-        (b"aoindex i = 9, 3\n", None),
-        (b"aoindex i = 9, 4\n", Some((SpaceKind::NoSegment, b'i', 4))),
+    let alloc = rt.alloc();
+    let input = input(alloc, 3, &[2, 3, 1])?;
+    for (kind, lo, hi, want) in [
+        (Kind::Ao, 1, 3, None),
+        (Kind::Ao, 1, 4, Some((SpaceKind::NoSegment, b'i', 4))),
+        (Kind::Ao, 0, 3, Some((SpaceKind::NoSegment, b'i', 0))),
+        (Kind::Ao, 0, 9, Some((SpaceKind::NoSegment, b'i', 0))),
+        (Kind::Ao, 9, 3, None),
+        (Kind::Ao, 9, 4, Some((SpaceKind::NoSegment, b'i', 4))),
         (
-            b"aoindex i = 1, 18446744073709551615\n",
+            Kind::Ao,
+            1,
+            u64::MAX,
             Some((SpaceKind::NoSegment, b'i', u64::MAX)),
         ),
+        (Kind::Moa, 1, 1, Some((SpaceKind::NoSegment, b'i', 0))),
+        (Kind::Index, 1, 4096, None),
         (
-            b"moaindex i = 1, 1\n",
-            Some((SpaceKind::NoSegment, b'i', 0)),
-        ),
-        (b"index i = 1, 4096\n", None),
-        (
-            b"index i = 1, 4097\n",
+            Kind::Index,
+            1,
+            4097,
             Some((SpaceKind::NoSegment, b'i', 4097)),
         ),
     ] {
-        assert_eq!(rt; misfit(rt.alloc(), lines, INPUT)?, want);
+        let indices = vec![in alloc; index(alloc, b"i", kind, lo, hi)?]?;
+        let program = program(alloc, indices, Vec::new(alloc), Vec::new(alloc))?;
+        assert_eq!(rt; refused(alloc, &program, &input)?, want);
     }
     Ok(())
 }
 
 #[test]
 fn constants_and_pieces_are_given(rt: HostRuntime) -> Result<(), Fail> {
-    for (lines, input, want) in [
-        (b"aoindex i = 1, n\n".as_slice(), INPUT, None),
-        (
-            b"aoindex i = 1, n\n",
-            b"const n = 4\nsegments ao 2 3 1\n",
-            Some((SpaceKind::NoSegment, b'i', 4)),
-        ),
-        (
-            b"aoindex i = 1, m\n",
-            INPUT,
-            Some((SpaceKind::NoConstant, b'i', 0)),
-        ),
-        (b"aoindex i = 1, 2\nsubindex j of i\n", INPUT, None),
-        (b"index i = 1, 2\nsubindex j of i\n", INPUT, None),
-        (
-            b"moindex i = 1, 2\nsubindex j of i\n",
-            INPUT,
-            Some((SpaceKind::NoSegment, b'j', 0)),
-        ),
+    let alloc = rt.alloc();
+    for (n, constant, want) in [
+        (3, b"n", None),
+        (4, b"n", Some((SpaceKind::NoSegment, b'i', 4))),
+        (3, b"m", Some((SpaceKind::NoConstant, b'i', 0))),
     ] {
-        assert_eq!(rt; misfit(rt.alloc(), lines, input)?, want);
+        let indices = vec![in alloc; index_to(alloc, b"i", constant)?]?;
+        let program = program(alloc, indices, Vec::new(alloc), Vec::new(alloc))?;
+        assert_eq!(rt;
+            refused(alloc, &program, &input(alloc, n, &[2, 3, 1])?)?,
+            want
+        );
+    }
+    for (kind, want) in [
+        (Kind::Ao, None),
+        (Kind::Index, None),
+        (Kind::Mo, Some((SpaceKind::NoSegment, b'j', 0))),
+    ] {
+        let indices = vec![in alloc; index(alloc, b"i", kind, 1, 2)?, sub(alloc, b"j", 0)?]?;
+        let program = program(alloc, indices, Vec::new(alloc), Vec::new(alloc))?;
+        assert_eq!(rt;
+            refused(alloc, &program, &input(alloc, 3, &[2, 3, 1])?)?,
+            want
+        );
     }
     Ok(())
 }
 
 #[test]
 fn arrays_are_not_too_large(rt: HostRuntime) -> Result<(), Fail> {
-    let input = b"segments ao 256 257\n";
-    for (lines, want) in [
-        (b"aoindex i = 1, 1\ntemp a(i,i)\n".as_slice(), None),
+    let alloc = rt.alloc();
+    let input = input(alloc, 3, &[256, 257])?;
+    for (kind, dims, want) in [
+        (ArrayKind::Temp, [0, 0], None),
         (
-            b"aoindex i = 1, 1\naoindex j = 1, 2\ntemp a(i,j)\n",
+            ArrayKind::Temp,
+            [0, 1],
             Some((SpaceKind::BlockTooWide, b'a', 65792)),
         ),
-        (b"index k = 1, 1024\nindex l = 1, 4096\ntemp a(k,l)\n", None),
-        (b"index k = 1, 1024\nstatic a(k,k)\n", None),
+        (ArrayKind::Temp, [2, 3], None),
+        (ArrayKind::Static, [2, 2], None),
         (
-            b"index k = 1, 1024\nindex l = 1, 4096\nstatic a(k,l)\n",
-            Some((SpaceKind::TooManyBlocks, b'a', 4_194_304)),
-        ),
-        // sixteen arrays of 2^20 blocks each, and a seventeenth of their kind or of another
-        (
-            b"index k = 1, 1024\nlocal aa(k,k)\nlocal ab(k,k)\nlocal ac(k,k)\nlocal ad(k,k)\nlocal ae(k,k)\nlocal af(k,k)\nlocal ag(k,k)\nlocal ah(k,k)\nlocal ai(k,k)\nlocal aj(k,k)\nlocal ak(k,k)\nlocal al(k,k)\nlocal am(k,k)\nlocal an(k,k)\nlocal ao1(k,k)\nlocal ap(k,k)\nlocal b(k,k)\n",
-            Some((SpaceKind::TooManyBlocks, b'b', 17_825_792)),
-        ),
-        (
-            b"index k = 1, 1024\nlocal aa(k,k)\nlocal ab(k,k)\nlocal ac(k,k)\nlocal ad(k,k)\nlocal ae(k,k)\nlocal af(k,k)\nlocal ag(k,k)\nlocal ah(k,k)\nlocal ai(k,k)\nlocal aj(k,k)\nlocal ak(k,k)\nlocal al(k,k)\nlocal am(k,k)\nlocal an(k,k)\nlocal ao1(k,k)\nlocal ap(k,k)\nstatic b(k,k)\n",
-            None,
+            ArrayKind::Static,
+            [2, 3],
+            Some((SpaceKind::TooManyBlocks, b'a', 4194304)),
         ),
     ] {
-        assert_eq!(rt; misfit(rt.alloc(), lines, input)?, want);
+        let indices = vec![in alloc;
+            index(alloc, b"i", Kind::Ao, 1, 1)?,
+            index(alloc, b"j", Kind::Ao, 1, 2)?,
+            index(alloc, b"k", Kind::Index, 1, 1024)?,
+            index(alloc, b"l", Kind::Index, 1, 4096)?,
+        ]?;
+        let arrays = vec![in alloc; array(alloc, b"a", kind, &dims)?]?;
+        let program = program(alloc, indices, arrays, Vec::new(alloc))?;
+        assert_eq!(rt; refused(alloc, &program, &input)?, want);
     }
     Ok(())
 }
 
-// A replicated, a private and a partial scalar.
-const SCALARS: &[u8] =
-    b"index i = 1, 1\nscalar x\nscalar y\nscalar z\npardo i\ny = 1\nz += 1\nendpardo i\n";
+#[test]
+fn the_arrays_of_a_kind_are_not_too_many_together(rt: HostRuntime) -> Result<(), Fail> {
+    let alloc = rt.alloc();
+    let input = input(alloc, 3, &[2, 3])?;
+    for (last, want) in [
+        (
+            ArrayKind::Local,
+            Some((SpaceKind::TooManyBlocks, b'b', 17825792)),
+        ),
+        (ArrayKind::Static, None),
+    ] {
+        let indices = vec![in alloc; index(alloc, b"k", Kind::Index, 1, 1024)?]?;
+        let mut arrays = Vec::new(alloc);
+        for _ in 0..16 {
+            arrays.push(array(alloc, b"a", ArrayKind::Local, &[0, 0])?)?;
+        }
+        arrays.push(array(alloc, b"b", last, &[0, 0])?)?;
+        let program = program(alloc, indices, arrays, Vec::new(alloc))?;
+        assert_eq!(rt; refused(alloc, &program, &input)?, want);
+    }
+    Ok(())
+}
 
-// Blocks with one position at segment 3, and three at segment 2, of a static, a served, a temp and a distributed array.
-const BLOCKS: &[u8] = b"aoindex i = 2, 3\nstatic a(i)\nserved v(i)\ntemp t(i)\ndistributed d(i)\n";
+#[test]
+fn indices_lie_within_the_declared_ones(rt: HostRuntime) -> Result<(), Fail> {
+    let alloc = rt.alloc();
+    let input = input(alloc, 3, &[2, 3, 1])?;
+    // `i` from 1 to 2, `j` from 1 to 3, its subindex `s`, none in `e`; `d(i)` and `l(i,i)`.
+    for (first, second, want) in [
+        (0, 3, None),
+        (1, 0, Some((SpaceKind::NotWithin, b'j', 30))),
+        (0, 1, Some((SpaceKind::NotWithin, b'j', 20))),
+        (2, 1, Some((SpaceKind::NotWithin, b'j', 20))),
+        (2, 0, Some((SpaceKind::NotWithin, b's', 30))),
+    ] {
+        let indices = vec![in alloc;
+            index(alloc, b"i", Kind::Ao, 1, 2)?,
+            index(alloc, b"j", Kind::Ao, 1, 3)?,
+            sub(alloc, b"s", 1)?,
+            index(alloc, b"e", Kind::Ao, 9, 3)?,
+        ]?;
+        let arrays = vec![in alloc;
+            array(alloc, b"d", ArrayKind::Distributed, &[0])?,
+            array(alloc, b"l", ArrayKind::Local, &[0, 0])?,
+        ]?;
+        let form = Form::Allocate {
+            array: 1,
+            at: vec![in alloc; Slot::All, Slot::At(second)]?,
+        };
+        let body = two(alloc, get(alloc, 30, 0, &[first])?, Stmt { line: 20, form })?;
+        let program = program(alloc, indices, arrays, body)?;
+        assert_eq!(rt; refused(alloc, &program, &input)?, want);
+    }
+    Ok(())
+}
+
+#[test]
+fn the_box_of_a_pardo_is_not_too_large(rt: HostRuntime) -> Result<(), Fail> {
+    let alloc = rt.alloc();
+    let input = input(alloc, 3, &[2, 3, 1])?;
+    // `k` has 4,096 segments, `h` one less, `j` is not within the `i` of `d(i)`.
+    for (pardo, line, want) in [
+        ([1, 0, 2].as_slice(), 20, None),
+        (
+            [0, 0, 2].as_slice(),
+            20,
+            Some((SpaceKind::TooManyBlocks, b'k', 4096 * 4096 * 257)),
+        ),
+        (
+            [0, 0, 2].as_slice(),
+            30,
+            Some((SpaceKind::NotWithin, b'j', 30)),
+        ),
+        (
+            [0, 0, 2].as_slice(),
+            31,
+            Some((SpaceKind::NotWithin, b'j', 30)),
+        ),
+    ] {
+        let indices = vec![in alloc;
+            index(alloc, b"k", Kind::Index, 1, 4096)?,
+            index(alloc, b"h", Kind::Index, 1, 4080)?,
+            index(alloc, b"g", Kind::Index, 1, 257)?,
+            index(alloc, b"i", Kind::Ao, 1, 2)?,
+            index(alloc, b"j", Kind::Ao, 1, 3)?,
+        ]?;
+        let arrays = vec![in alloc; array(alloc, b"d", ArrayKind::Distributed, &[3])?]?;
+        let form = Form::Pardo {
+            indices: Vec::from_slice(alloc, pardo)?,
+            wheres: Vec::new(alloc),
+            body: Vec::new(alloc),
+        };
+        let within = if line > 20 { 4 } else { 3 };
+        let body = two(alloc, Stmt { line, form }, get(alloc, 30, 0, &[within])?)?;
+        let program = program(alloc, indices, arrays, body)?;
+        assert_eq!(rt; refused(alloc, &program, &input)?, want);
+    }
+    Ok(())
+}
 
 #[test]
 fn start_values_have_places(rt: HostRuntime) -> Result<(), Fail> {
-    for (lines, input, want) in [
-        (SCALARS, b"scalar x = 5\n".as_slice(), None),
+    let alloc = rt.alloc();
+    for (name, want) in [
+        (b"x", None),
+        (b"y", Some((SpaceKind::BadStart, b'y', 7))),
+        (b"z", Some((SpaceKind::BadStart, b'z', 7))),
+        (b"u", Some((SpaceKind::BadStart, b'u', 7))),
+    ] {
+        let mut input = input(alloc, 3, &[2, 3, 1])?;
+        input.scalars.push(scalar_line(alloc, 7, name, 5)?)?;
+        let program = program(alloc, Vec::new(alloc), Vec::new(alloc), Vec::new(alloc))?;
+        assert_eq!(rt; refused(alloc, &program, &input)?, want);
+    }
+    Ok(())
+}
+
+#[test]
+fn blocks_of_start_values_are_whole(rt: HostRuntime) -> Result<(), Fail> {
+    let alloc = rt.alloc();
+    for (name, segment, elements, want) in [
+        (b"a", 3, [1].as_slice(), None),
+        (b"a", 2, [1, 2, 3].as_slice(), None),
+        (b"v", 2, [1, 2, 3].as_slice(), None),
         (
-            SCALARS,
-            b"scalar y = 5\n",
-            Some((SpaceKind::BadStart, b'y', 1)),
+            b"a",
+            2,
+            [1, 2].as_slice(),
+            Some((SpaceKind::BadStart, b'a', 6)),
         ),
         (
-            SCALARS,
-            b"scalar z = 5\n",
-            Some((SpaceKind::BadStart, b'z', 1)),
+            b"a",
+            1,
+            [1, 2].as_slice(),
+            Some((SpaceKind::BadStart, b'a', 6)),
         ),
         (
-            SCALARS,
-            b"\nscalar u = 5\n",
-            Some((SpaceKind::BadStart, b'u', 2)),
-        ),
-        (BLOCKS, b"segments ao 2 3 1\nblock a 3 = 1\n", None),
-        (BLOCKS, b"segments ao 2 3 1\nblock a 2 = 1 2 3\n", None),
-        (BLOCKS, b"segments ao 2 3 1\nblock v 2 = 1 2 3\n", None),
-        (
-            BLOCKS,
-            b"segments ao 2 3 1\nblock a 2 = 1 2\n",
-            Some((SpaceKind::BadStart, b'a', 2)),
+            b"a",
+            4,
+            [1].as_slice(),
+            Some((SpaceKind::BadStart, b'a', 6)),
         ),
         (
-            BLOCKS,
-            b"segments ao 2 3 1\nblock a 1 = 1 2\n",
-            Some((SpaceKind::BadStart, b'a', 2)),
+            b"t",
+            2,
+            [1, 2, 3].as_slice(),
+            Some((SpaceKind::BadStart, b't', 6)),
         ),
         (
-            BLOCKS,
-            b"segments ao 2 3 1\nblock a 4 = 1\n",
-            Some((SpaceKind::BadStart, b'a', 2)),
+            b"d",
+            2,
+            [1, 2, 3].as_slice(),
+            Some((SpaceKind::BadStart, b'd', 6)),
         ),
         (
-            BLOCKS,
-            b"segments ao 2 3 1\nblock t 2 = 1 2 3\n",
-            Some((SpaceKind::BadStart, b't', 2)),
-        ),
-        (
-            BLOCKS,
-            b"segments ao 2 3 1\nblock d 2 = 1 2 3\n",
-            Some((SpaceKind::BadStart, b'd', 2)),
-        ),
-        (
-            BLOCKS,
-            b"segments ao 2 3 1\nblock x 2 = 1 2 3\n",
-            Some((SpaceKind::BadStart, b'x', 2)),
-        ),
-        // of two bad lines the first is told
-        (
-            SCALARS,
-            b"scalar u = 5\nblock w 1 = 1\nscalar q = 5\n",
-            Some((SpaceKind::BadStart, b'u', 1)),
-        ),
-        (
-            SCALARS,
-            b"block w 1 = 1\nscalar u = 5\nscalar q = 5\n",
-            Some((SpaceKind::BadStart, b'w', 1)),
+            b"x",
+            2,
+            [1, 2, 3].as_slice(),
+            Some((SpaceKind::BadStart, b'x', 6)),
         ),
     ] {
-        assert_eq!(rt; misfit(rt.alloc(), lines, input)?, want);
+        let indices = vec![in alloc; index(alloc, b"i", Kind::Ao, 2, 3)?]?;
+        let arrays = vec![in alloc;
+            array(alloc, b"a", ArrayKind::Static, &[0])?,
+            array(alloc, b"v", ArrayKind::Served, &[0])?,
+            array(alloc, b"t", ArrayKind::Temp, &[0])?,
+            array(alloc, b"d", ArrayKind::Distributed, &[0])?,
+        ]?;
+        let mut input = input(alloc, 3, &[2, 3, 1])?;
+        let line = block_line(alloc, 6, name, &[segment], elements)?;
+        input.blocks.push(line)?;
+        let program = program(alloc, indices, arrays, Vec::new(alloc))?;
+        assert_eq!(rt; refused(alloc, &program, &input)?, want);
+    }
+    Ok(())
+}
+
+#[test]
+fn of_two_bad_lines_the_first_is_told(rt: HostRuntime) -> Result<(), Fail> {
+    let alloc = rt.alloc();
+    for (scalar, array, want) in [(5, 6, b'u'), (6, 5, b'w')] {
+        let mut input = input(alloc, 3, &[2, 3, 1])?;
+        input.scalars.push(scalar_line(alloc, 8, b"q", 5)?)?;
+        input.scalars.push(scalar_line(alloc, scalar, b"u", 5)?)?;
+        input
+            .blocks
+            .push(block_line(alloc, array, b"w", &[1], &[1])?)?;
+        let program = program(alloc, Vec::new(alloc), Vec::new(alloc), Vec::new(alloc))?;
+        assert_eq!(rt;
+            refused(alloc, &program, &input)?,
+            Some((SpaceKind::BadStart, want, 5))
+        );
     }
     Ok(())
 }
 
 #[test]
 fn the_rounds_follow_one_another(rt: HostRuntime) -> Result<(), Fail> {
-    let input = b"segments ao 2 3 257\nscalar u = 5\n";
-    for (lines, want) in [
+    let alloc = rt.alloc();
+    for (hi, dims, at, want) in [
         (
-            b"aoindex i = 1, 2\naoindex j = 1, 4\nstatic a(j,j)\nget a(j,i)\n".as_slice(),
+            4,
+            [1, 1].as_slice(),
+            1,
             Some((SpaceKind::NoSegment, b'j', 4)),
         ),
         (
-            b"aoindex i = 1, 2\naoindex j = 1, 3\nstatic a(j,j)\nget a(j,i)\n",
+            3,
+            [1, 1].as_slice(),
+            1,
             Some((SpaceKind::BlockTooWide, b'a', 66049)),
         ),
         (
-            b"aoindex i = 1, 2\naoindex j = 1, 3\nstatic a(i,i)\nget a(j,i)\n",
-            Some((SpaceKind::NotWithin, b'j', 5)),
+            3,
+            [0, 0].as_slice(),
+            1,
+            Some((SpaceKind::NotWithin, b'j', 20)),
         ),
         (
-            b"aoindex i = 1, 2\naoindex j = 1, 3\nstatic a(i,i)\nget a(i,i)\n",
-            Some((SpaceKind::BadStart, b'u', 2)),
+            3,
+            [0, 0].as_slice(),
+            0,
+            Some((SpaceKind::BadStart, b'u', 5)),
         ),
     ] {
-        assert_eq!(rt; misfit(rt.alloc(), lines, input)?, want);
+        let mut input = input(alloc, 3, &[2, 3, 257])?;
+        input.scalars.push(scalar_line(alloc, 5, b"u", 5)?)?;
+        let indices = vec![in alloc;
+            index(alloc, b"i", Kind::Ao, 1, 2)?,
+            index(alloc, b"j", Kind::Ao, 1, hi)?,
+        ]?;
+        let arrays = vec![in alloc; array(alloc, b"a", ArrayKind::Static, dims)?]?;
+        let body = one(alloc, get(alloc, 20, 0, &[at, 0])?)?;
+        let program = program(alloc, indices, arrays, body)?;
+        assert_eq!(rt; refused(alloc, &program, &input)?, want);
     }
     Ok(())
 }
