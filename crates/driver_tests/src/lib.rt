@@ -14,4 +14,6 @@ mod rules;
 #[cfg(test)]
 mod runs;
 #[cfg(test)]
+mod tables;
+#[cfg(test)]
 mod texts;

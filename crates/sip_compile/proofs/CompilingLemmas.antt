@@ -27,5 +27,5 @@ pub for_table :
 for_table load old mid program text r tables fact loaded is same holds = (
   text,
   loaded,
-  (tree r.program, record { text_is = is.text_is; rules = is.kept.rules }, subst (λ (t : Lists). fact (bytes t)) same holds),
+  (tree r.program, record { source_is = is.source_is; rules = is.kept.rules }, subst (λ (t : Lists). fact (bytes t)) same holds),
 )

@@ -4,7 +4,7 @@ use Rattle.sial_syntax.specs.Tree.{Tree}
 use Rattle.sip_files.specs.Files.{Folder}
 use Rattle.sip_files.specs.Loading.{LoadOf}
 use Rattle.sip_files.specs.declared.call.Call.{Call}
-use Rattle.sip_grant.specs.Programs.{IsProgram, IsProgramText}
+use Rattle.sip_grant.specs.Programs.{IsProgram, IsProgramFile}
 use Rattle.sip_grant.specs.Refusals.{ForProgram, RefusesProgram}
 use Rattle.sip_tables.specs.Flatten.{flatten}
 use Rattle.table_file.specs.Bytes.{bytes}
@@ -42,4 +42,4 @@ FailsToCompile load files told faults old new program table (Refused refusal) =
 FailsToCompile {F} load files told faults old new program table NotWritten =
     (mid : F) × files mid new × ForTable load old mid program (λ whole. IsUnfiled (told new) table whole (faults mid) (faults new))
 FailsToCompile load files told faults old new program table OutOfMemory =
-    ForProgram load old new program IsProgramText × (told new ≡ told old)
+    ForProgram load old new program IsProgramFile × (told new ≡ told old)

@@ -9,11 +9,11 @@ use Rattle.sip_files.specs.Loading.{LoadOf}
 use Rattle.sip_files.specs.declared.call.Call.{Call}
 use Rattle.sip_grant.specs.Loads.{IsUnread}
 use Rattle.sip_grant.specs.Names.{named, program_file}
-use Rattle.sip_grant.specs.Programs.{BreaksShape, BreaksSides, IsProgramText}
+use Rattle.sip_grant.specs.Programs.{BreaksShape, BreaksSides, IsProgramFile}
 use Rattle.sip_grant.specs.Refusals.{ForProgram, RefusesProgram}
 use Rattle.sip_grant.specs.Syntax.{IsFaultOf}
 use Rattle.sip_grant.specs.declared.refusal.Refusal.{Refusal}
-use Rattle.sial_parser.specs.declared.fault.ParseFault.{ParseFault}
+use Rattle.sip_grant.specs.declared.refusal.SyntaxFault.{SyntaxFault}
 use Rattle.sip_grant.specs.declared.refusal.Refusal.TheVariants.{NoProgram, NoTree, Shape, Sides, NoInput, BadInput, Unfit, OutOfMemory}
 use Rattle.sip_grant.specs.declared.refusal.Refusal.TheVariants as no
 use Rattle.sip_driver.specs.Performed.{CompileAnswers, line_on, status_of}
@@ -45,7 +45,7 @@ module _
   unread status OutOfMemory refuses said gives e = absurd (omega (arith, gives, e))
 
   syntax : (status : ℕ) (refusal : Refusal) → RefusesProgram load old new program refusal → says (line_on (named program table) refusal) → status ≡ status_of refusal → status ≡ 3
-      → (fault : ParseFault) × ForProgram load old new program (λ text. IsFaultOf text fault) × says (syntax_line fault)
+      → (fault : SyntaxFault) × ForProgram load old new program (λ text. IsFaultOf text fault) × says (syntax_line fault)
   syntax status NoProgram refuses said gives e = absurd (omega (arith, gives, e))
   syntax status (NoTree fault) refuses said gives e = (fault, refuses, said)
   syntax status (Shape fault) refuses said gives e = absurd (omega (arith, gives, e))
@@ -167,7 +167,7 @@ module _
   }
 
   -- Want of memory for the tables.
-  pub compile_starved : ForProgram load old new program IsProgramText × (told new ≡ told old) → says (line_of 13) → CompileAnswers load files told counts old new program table says 13
+  pub compile_starved : ForProgram load old new program IsProgramFile × (told new ≡ told old) → says (line_of 13) → CompileAnswers load files told counts old new program table says 13
   compile_starved starved said = record {
     done = λ e. absurd (omega (arith, e));
     unread = λ e. absurd (omega (arith, e));

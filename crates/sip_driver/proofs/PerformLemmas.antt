@@ -5,7 +5,7 @@ use Rattle.sial_meaning.specs.Setting.{Setting}
 use Rattle.sial_syntax.specs.Tree.{tree}
 use Rattle.sip_files.specs.Loading.{LoadOf}
 use Rattle.sip_files.specs.Sink.{Gains, GainsPart}
-use Rattle.sip_grant.specs.Granting.{IsGrantedFor, AreTextsOf}
+use Rattle.sip_grant.specs.Granting.{IsGrantedFor, AreFilesOf}
 use Rattle.sip_grant.specs.Names.{Names}
 use Rattle.sip_grant.specs.Refusals.{ForTexts}
 use Rattle.sip_setting.specs.Printing.{printed_text}
@@ -17,7 +17,7 @@ use Rattle.sip_driver.specs.declared.answer.Answer.{Answer}
 use Rattle.sip_driver.specs.declared.answer.Answer.TheVariants.{Done, Refused, NotFirst, NotWritten, OutOfMemory}
 
 -- the texts for which a program was granted
-texts_of : (program input : List ℕ) (job : Granted) (is : IsGrantedFor program input job) → AreTextsOf program input (tree job.program) is.given
+texts_of : (program input : List ℕ) (job : Granted) (is : IsGrantedFor program input job) → AreFilesOf program input (tree job.program) is.given
 texts_of program input job is = record { program_is = is.program_is; input_is = is.input_is; granted = is.granted.granted }
 
 -- they are run, where the program is of the first profile

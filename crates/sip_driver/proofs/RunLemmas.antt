@@ -15,7 +15,7 @@ use Rattle.sip_grant.specs.Programs.{BreaksShape, BreaksSides}
 use Rattle.sip_grant.specs.Refusals.{ForProgram, ForTexts, Refuses}
 use Rattle.sip_grant.specs.Syntax.{IsFaultOf}
 use Rattle.sip_grant.specs.declared.refusal.Refusal.{Refusal}
-use Rattle.sial_parser.specs.declared.fault.ParseFault.{ParseFault}
+use Rattle.sip_grant.specs.declared.refusal.SyntaxFault.{SyntaxFault}
 use Rattle.sip_grant.specs.declared.refusal.Refusal.TheVariants.{NoProgram, NoTree, Shape, Sides, NoInput, BadInput, Unfit, OutOfMemory}
 use Rattle.sip_grant.specs.declared.refusal.Refusal.TheVariants as no
 use Rattle.sip_driver.specs.Performed.{RunAnswers, line_on, status_of}
@@ -41,7 +41,7 @@ module _
   unread status OutOfMemory refuses said gives e = absurd (omega (arith, gives, e))
 
   syntax : (status : ℕ) (refusal : Refusal) → Refuses load old new names refusal → says (line_on names refusal) → status ≡ status_of refusal → status ≡ 3
-      → ((fault : ParseFault) × ForProgram load old new names.program (λ program. IsFaultOf program fault) × says (syntax_line fault))
+      → ((fault : SyntaxFault) × ForProgram load old new names.program (λ program. IsFaultOf program fault) × says (syntax_line fault))
       ⊎ (ForTexts load old new names IsNotFirst × says first_line)
   syntax status NoProgram refuses said gives e = absurd (omega (arith, gives, e))
   syntax status (NoTree fault) refuses said gives e = inl (fault, refuses, said)
@@ -176,7 +176,7 @@ module _
       → IsUnreadable (told old) (input_of names)
       → (status ≡ 2)
       ⊎ ((status ≡ 13)
-      ⊎ (((status ≡ 3) × ((fault : ParseFault) × ForProgram (Loading gives told counts overlong) old new names.program (λ program. IsFaultOf program fault) × says (syntax_line fault)))
+      ⊎ (((status ≡ 3) × ((fault : SyntaxFault) × ForProgram (Loading gives told counts overlong) old new names.program (λ program. IsFaultOf program fault) × says (syntax_line fault)))
       ⊎ ((status ≡ 4)
       × (((fault : ShapeFault) × ForProgram (Loading gives told counts overlong) old new names.program (λ program. BreaksShape program fault) × says (shape_line fault))
       ⊎ ((fault : RuleFault) × ForProgram (Loading gives told counts overlong) old new names.program (λ program. BreaksSides program fault) × says (side_line fault))))))

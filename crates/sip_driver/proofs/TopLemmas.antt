@@ -14,7 +14,7 @@ use Rattle.sip_grant.specs.Programs.{BreaksShape, BreaksSides}
 use Rattle.sip_grant.specs.Refusals.{ForProgram, ForTexts, Refuses}
 use Rattle.sip_grant.specs.Syntax.{IsFaultOf}
 use Rattle.sip_grant.specs.declared.refusal.Refusal.TheVariants.{OutOfMemory}
-use Rattle.sial_parser.specs.declared.fault.ParseFault.{ParseFault}
+use Rattle.sip_grant.specs.declared.refusal.SyntaxFault.{SyntaxFault}
 use Rattle.sip_words.specs.Plain.{Spells}
 use Rattle.sip_words.specs.Requests.{compile}
 use Rattle.sip_words.specs.Seen.{texts}
@@ -39,7 +39,7 @@ module _
     (names : Names)
     (asks : AskFor words (run_of names)) where
   -- 3
-  pub for_run_fault : ((fault : ParseFault) × ForProgram load old new names.program (λ program. IsFaultOf program fault) × says (syntax_line fault))
+  pub for_run_fault : ((fault : SyntaxFault) × ForProgram load old new names.program (λ program. IsFaultOf program fault) × says (syntax_line fault))
       ⊎ (ForTexts load old new names IsNotFirst × says first_line)
       → Unparsed words load old new says ⊎ NotFirst words load old new says
   for_run_fault (inl (fault, read, said)) = inl (fault, inl (names, asks, read), said)
@@ -72,7 +72,7 @@ module _
       → (IsUnreadable told (input_of names)
       → (status ≡ 2)
       ⊎ ((status ≡ 13)
-      ⊎ (((status ≡ 3) × ((fault : ParseFault) × ForProgram load old new names.program (λ program. IsFaultOf program fault) × says (syntax_line fault)))
+      ⊎ (((status ≡ 3) × ((fault : SyntaxFault) × ForProgram load old new names.program (λ program. IsFaultOf program fault) × says (syntax_line fault)))
       ⊎ ((status ≡ 4)
       × (((fault : ShapeFault) × ForProgram load old new names.program (λ program. BreaksShape program fault) × says (shape_line fault))
       ⊎ ((fault : RuleFault) × ForProgram load old new names.program (λ program. BreaksSides program fault) × says (side_line fault)))))))
@@ -85,7 +85,7 @@ module _
     where
       by_input : (status ≡ 2)
           ⊎ ((status ≡ 13)
-          ⊎ (((status ≡ 3) × ((fault : ParseFault) × ForProgram load old new names.program (λ program. IsFaultOf program fault) × says (syntax_line fault)))
+          ⊎ (((status ≡ 3) × ((fault : SyntaxFault) × ForProgram load old new names.program (λ program. IsFaultOf program fault) × says (syntax_line fault)))
           ⊎ ((status ≡ 4)
           × (((fault : ShapeFault) × ForProgram load old new names.program (λ program. BreaksShape program fault) × says (shape_line fault))
           ⊎ ((fault : RuleFault) × ForProgram load old new names.program (λ program. BreaksSides program fault) × says (side_line fault))))))

@@ -23,7 +23,7 @@ use Rattle.sip_grant.specs.Programs.{BreaksShape, BreaksSides}
 use Rattle.sip_grant.specs.Refusals.{ForProgram, ForTexts, Refuses, RefusesProgram}
 use Rattle.sip_grant.specs.Syntax.{IsFaultOf}
 use Rattle.sip_grant.specs.declared.refusal.Refusal.TheVariants.{OutOfMemory}
-use Rattle.sial_parser.specs.declared.fault.ParseFault.{ParseFault}
+use Rattle.sip_grant.specs.declared.refusal.SyntaxFault.{SyntaxFault}
 use Rattle.sip_words.specs.Plain.{Spells}
 use Rattle.sip_words.specs.Seen.{texts}
 use Rattle.sip_driver.specs.Asked.{ForCompile, ForEither, ForRun, SpellNothing, run_of}
@@ -31,11 +31,11 @@ use Rattle.sip_driver.specs.Prints.{Prints, PrintsPart, IsNotFirst}
 use Rattle.sip_driver.specs.Says.{read_line, syntax_line, shape_line, side_line, input_line, space_line, first_line, line_of, write_line}
 
 -- the words ask for a run; both files were read, the program and then its input, nothing else was loaded, the program keeps the rules,
--- and both texts have this property
+-- and both files have this property
 abbrev pub Texts : {F : Type 0} → List (String Global) → LoadOf F → (old new : F) → (List ℕ → List ℕ → Type 0) → Type 0
 Texts words load old new fact = ForRun words (λ names. ForTexts load old new names fact)
 
--- the words ask for something to do with a program; it was read, nothing else was loaded, and its text has this property
+-- the words ask for something to do with a program; it was read, nothing else was loaded, and its file has this property
 abbrev pub Program : {F : Type 0} → List (String Global) → LoadOf F → (old new : F) → (List ℕ → Type 0) → Type 0
 Program words load old new fact = ForEither words (λ program. ForProgram load old new program fact)
 
@@ -71,10 +71,11 @@ Unread words load old new says =
     ForRun words (λ names. (name : List ℕ) × IsFirstUnread load old new (files_of names) name × says (read_line name))
     ⊎ ForCompile words (λ program table. IsUnread load old new (program_file program) × says (read_line program))
 
--- 3: the program's text has a fault, its first one, which the line tells with its own line
+-- 3: the program's file is that of no program: its text has a fault, its first one, or it is a table file and has one; the line tells the
+-- fault and its place
 abbrev pub Unparsed : {F : Type 0} → List (String Global) → LoadOf F → (old new : F) → (says : List ℕ → Type 0) → Type 0
 Unparsed words load old new says =
-    (fault : ParseFault) × Program words load old new (λ program. IsFaultOf program fault) × says (syntax_line fault)
+    (fault : SyntaxFault) × Program words load old new (λ program. IsFaultOf program fault) × says (syntax_line fault)
 
 -- 3 as well: the rules grant the program and its input, but the program isn't of the first profile
 abbrev pub NotFirst : {F : Type 0} → List (String Global) → LoadOf F → (old new : F) → (says : List ℕ → Type 0) → Type 0
@@ -100,7 +101,7 @@ abbrev pub Unfit : {F : Type 0} → List (String Global) → LoadOf F → (old n
 Unfit words load old new says =
     (fault : SpaceFault) × Texts words load old new (λ program input. Misfits program input fault) × says (space_line fault)
 
--- where a file that is told can't be read: the program's gives 2, and the input's gives 2 unless the program's text has a fault (3) or
+-- where a file that is told can't be read: the program's gives 2, and the input's gives 2 unless the program's file has a fault (3) or
 -- breaks a rule (4); or 13 for want of memory
 abbrev pub RefusesUnreadable : (status : ℕ) → List (String Global) → Option Folder → (unparsed unruled : Type 0) → Type 0
 RefusesUnreadable status words told unparsed unruled =

@@ -1,4 +1,4 @@
--- The names of faults, and the lines that they stand on.
+-- The names of faults, and the places that they stand at.
 use Rattle.std.specs.Prelude.{ℕ, List, codes}
 use Rattle.index_spaces.specs.declared.fault.SpaceKind.{SpaceKind}
 use Rattle.index_spaces.specs.declared.fault.SpaceKind.TheVariants as space
@@ -12,15 +12,19 @@ use Rattle.sial_lexer.specs.declared.fault.LexKind.{LexKind}
 use Rattle.sial_lexer.specs.declared.fault.LexKind.TheVariants as lex
 use Rattle.sial_parser.specs.declared.fault.ParseFault.{ParseFault}
 use Rattle.sial_parser.specs.declared.fault.ParseFault.TheVariants.{Lex, Expected, Undeclared, Twice, EndName, TooMany, TooDeep, OutOfMemory}
+use Rattle.table_file.specs.declared.fault.TableFault.{TableFault}
+use Rattle.table_file.specs.declared.fault.TableFault.TheVariants as file
+use Rattle.table_verify.specs.declared.fault.VerifyFault.{VerifyFault}
+use Rattle.table_verify.specs.declared.fault.VerifyFault.TheVariants as verify
 
--- what a line tells of a fault: its line, and the name of its kind
+-- what a line tells of a fault: its place, which is a line, a byte of a table file or an instruction, and the name of its kind
 pub record Told : Type 0 where
-  pub line : ℕ
+  pub place : ℕ
   pub kind : List ℕ
 
--- a kind at a line
+-- a kind at a place
 abbrev pub at : ℕ → List ℕ → Told
-at line kind = record { line = line; kind = kind }
+at place kind = record { place = place; kind = kind }
 
 -- the name of a lexer's kind
 abbrev pub lex_kind_of : LexKind → List ℕ
@@ -41,6 +45,23 @@ syntax_told (EndName line) = at line (codes "EndName")
 syntax_told (TooMany line which) = at line (codes "TooMany")
 syntax_told (TooDeep line) = at line (codes "TooDeep")
 syntax_told OutOfMemory = at 0 (codes "OutOfMemory")
+
+-- a fault of a table file; one without a place stands at 0
+abbrev pub file_told : TableFault → Told
+file_told file.Magic = at 0 (codes "Magic")
+file_told file.Version = at 0 (codes "Version")
+file_told (file.Short place) = at place (codes "Short")
+file_told (file.Field place) = at place (codes "Field")
+file_told (file.Rest place) = at place (codes "Rest")
+file_told (file.TooMany place) = at place (codes "TooMany")
+file_told file.OutOfMemory = at 0 (codes "OutOfMemory")
+
+-- a fault of the tables of a file, at an instruction
+abbrev pub tables_told : VerifyFault → Told
+tables_told (verify.Nest instruction) = at instruction (codes "Nest")
+tables_told (verify.Target instruction) = at instruction (codes "Target")
+tables_told (verify.Id instruction) = at instruction (codes "Id")
+tables_told verify.OutOfMemory = at 0 (codes "OutOfMemory")
 
 -- a broken shape rule
 abbrev pub shape_told : ShapeFault → Told

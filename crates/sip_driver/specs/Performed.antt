@@ -19,7 +19,7 @@ use Rattle.sip_grant.specs.Programs.{BreaksShape, BreaksSides}
 use Rattle.sip_grant.specs.Refusals.{ForProgram, ForTexts, Refuses, RefusesProgram}
 use Rattle.sip_grant.specs.Syntax.{IsFaultOf}
 use Rattle.sip_grant.specs.declared.refusal.Refusal.{Refusal}
-use Rattle.sial_parser.specs.declared.fault.ParseFault.{ParseFault}
+use Rattle.sip_grant.specs.declared.refusal.SyntaxFault.{SyntaxFault}
 use Rattle.sip_grant.specs.declared.refusal.Refusal.TheVariants as no
 use Rattle.sip_setting.specs.Printing.{printed_text}
 use Rattle.sip_setting.specs.Seen.{setting_of}
@@ -101,7 +101,7 @@ pub record RunAnswers
   pub done : status ≡ 0 → ForTexts load old new names (Prints (written before) (written after))
   pub unread : status ≡ 2 → (name : List ℕ) × IsFirstUnread load old new (files_of names) name × says (read_line name)
   pub syntax : status ≡ 3
-      → ((fault : ParseFault) × ForProgram load old new names.program (λ program. IsFaultOf program fault) × says (syntax_line fault))
+      → ((fault : SyntaxFault) × ForProgram load old new names.program (λ program. IsFaultOf program fault) × says (syntax_line fault))
       ⊎ (ForTexts load old new names IsNotFirst × says first_line)
   pub rule : status ≡ 4
       → ((fault : ShapeFault) × ForProgram load old new names.program (λ program. BreaksShape program fault) × says (shape_line fault))
@@ -119,7 +119,7 @@ pub record RunAnswers
   pub input_unreadable : IsUnreadable told (input_of names)
       → (status ≡ 2)
       ⊎ ((status ≡ 13)
-      ⊎ (((status ≡ 3) × ((fault : ParseFault) × ForProgram load old new names.program (λ program. IsFaultOf program fault) × says (syntax_line fault)))
+      ⊎ (((status ≡ 3) × ((fault : SyntaxFault) × ForProgram load old new names.program (λ program. IsFaultOf program fault) × says (syntax_line fault)))
       ⊎ ((status ≡ 4)
       × (((fault : ShapeFault) × ForProgram load old new names.program (λ program. BreaksShape program fault) × says (shape_line fault))
       ⊎ ((fault : RuleFault) × ForProgram load old new names.program (λ program. BreaksSides program fault) × says (side_line fault))))))
@@ -139,7 +139,7 @@ pub record CompileAnswers
     (status : ℕ) : Type 0 where
   pub done : status ≡ 0 → Compiles load files told old new program table
   pub unread : status ≡ 2 → IsUnread load old new (program_file program) × says (read_line program)
-  pub syntax : status ≡ 3 → (fault : ParseFault) × ForProgram load old new program (λ text. IsFaultOf text fault) × says (syntax_line fault)
+  pub syntax : status ≡ 3 → (fault : SyntaxFault) × ForProgram load old new program (λ text. IsFaultOf text fault) × says (syntax_line fault)
   pub rule : status ≡ 4
       → ((fault : ShapeFault) × ForProgram load old new program (λ text. BreaksShape text fault) × says (shape_line fault))
       ⊎ ((fault : RuleFault) × ForProgram load old new program (λ text. BreaksSides text fault) × says (side_line fault))

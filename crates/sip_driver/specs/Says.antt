@@ -4,10 +4,11 @@ use Rattle.index_spaces.specs.declared.fault.SpaceFault.{SpaceFault}
 use Rattle.input_text.specs.declared.fault.InputFault.{InputFault}
 use Rattle.scalar_discipline.specs.declared.fault.RuleFault.{RuleFault}
 use Rattle.shape_check.specs.declared.fault.ShapeFault.{ShapeFault}
-use Rattle.sial_parser.specs.declared.fault.ParseFault.{ParseFault}
 use Rattle.sip_files.specs.Files.{Rose}
 use Rattle.sip_files.specs.Sink.{Gains, GainsPart}
-use Rattle.sip_driver.specs.Kinds.{Told, syntax_told, shape_told, side_told, input_told, space_kind_of}
+use Rattle.sip_grant.specs.declared.refusal.SyntaxFault.{SyntaxFault}
+use Rattle.sip_grant.specs.declared.refusal.SyntaxFault.TheVariants.{Text, File, Tables}
+use Rattle.sip_driver.specs.Kinds.{Told, syntax_told, file_told, tables_told, shape_told, side_told, input_told, space_kind_of}
 
 -- the line on a file that wasn't read
 abbrev pub read_line : (name : List ℕ) → List ℕ
@@ -17,13 +18,15 @@ read_line name = codes "sip: read " ++ (name ++ (10 ∷ []))
 abbrev pub write_line : (name : List ℕ) → List ℕ
 write_line name = codes "sip: write " ++ (name ++ (10 ∷ []))
 
--- a line that begins so and tells a fault's line and kind
+-- a line that begins so and tells a fault's place and kind
 abbrev pub told_line : (front : List ℕ) → Told → List ℕ
-told_line front told = front ++ (decimal told.line ++ (codes ": " ++ (told.kind ++ (10 ∷ []))))
+told_line front told = front ++ (decimal told.place ++ (codes ": " ++ (told.kind ++ (10 ∷ []))))
 
--- the line on a fault of the program's text
-abbrev pub syntax_line : ParseFault → List ℕ
-syntax_line fault = told_line (codes "sip: syntax line ") (syntax_told fault)
+-- the line on a fault of the program's file
+abbrev pub syntax_line : SyntaxFault → List ℕ
+syntax_line (Text fault) = told_line (codes "sip: syntax line ") (syntax_told fault)
+syntax_line (File fault) = told_line (codes "sip: table at ") (file_told fault)
+syntax_line (Tables fault) = told_line (codes "sip: table instruction ") (tables_told fault)
 
 -- the line on a shape rule that the program breaks
 abbrev pub shape_line : ShapeFault → List ℕ

@@ -7,9 +7,9 @@ use Rattle.sip_driver.specs.Asked.{run_of}
 use Rattle.sip_grant.specs.Names.{named}
 use Rattle.sip_words.specs.Requests.{Request, compile}
 
--- the line and the kind
+-- the place and the kind
 abbrev pub told_of : Told → spec.Told
-told_of told = record { line = told.line; kind = told.kind.now }
+told_of told = record { place = told.place; kind = told.kind.now }
 
 -- the request that words were taken for
 abbrev pub request_of : Asked → Request

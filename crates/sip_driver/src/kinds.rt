@@ -1,4 +1,4 @@
-//! What the line of a fault tells of it: its line, and the name of its kind.
+//! What the line of a fault tells of it: its place, and the name of its kind.
 
 ghost use Rattle.std.specs.Prelude.{◌≡◌};
 ghost use Rattle.sip_driver.specs.Kinds as spec;
@@ -10,19 +10,28 @@ use scalar_discipline::RuleFault;
 use shape_check::ShapeFault;
 use sial_lexer::LexKind;
 use sial_parser::ParseFault;
+use table_file::TableFault;
+use table_verify::VerifyFault;
 
-/// A fault's line, and the name of its kind.
+/// A fault's place, which is a line, a byte of a table file or an instruction, and the name of its kind.
 #[derive(Clone, Copy)]
 pub struct Told {
-    pub line: u32,
+    pub place: u64,
     pub kind: &'static [u8],
+}
+
+// A kind at a place.
+fn at_place(place: u64, kind: &'static [u8]) -> Told
+    ensures { told_of result ≡ spec.at place kind.now }
+{
+    Told { place, kind }
 }
 
 // A kind at a line.
 fn at(line: u32, kind: &'static [u8]) -> Told
     ensures { told_of result ≡ spec.at line kind.now }
 {
-    Told { line, kind }
+    at_place(line as u64, kind)
 }
 
 /// A fault of a program's text.
@@ -52,6 +61,33 @@ fn lex_kind(kind: LexKind) -> &'static [u8]
         LexKind::OpenText => b"OpenText",
         LexKind::TooLong => b"TooLong",
         LexKind::OutOfMemory => b"OutOfMemory",
+    }
+}
+
+/// A fault of a table file; one without a place stands at 0.
+pub fn file_told(fault: TableFault) -> Told
+    ensures { told_of result ≡ spec.file_told fault }
+{
+    match fault {
+        TableFault::Magic => at_place(0, b"Magic"),
+        TableFault::Version => at_place(0, b"Version"),
+        TableFault::Short { at } => at_place(at, b"Short"),
+        TableFault::Field { at } => at_place(at, b"Field"),
+        TableFault::Rest { at } => at_place(at, b"Rest"),
+        TableFault::TooMany { at } => at_place(at, b"TooMany"),
+        TableFault::OutOfMemory => at_place(0, b"OutOfMemory"),
+    }
+}
+
+/// A fault of the tables of a file, at an instruction.
+pub fn tables_told(fault: VerifyFault) -> Told
+    ensures { told_of result ≡ spec.tables_told fault }
+{
+    match fault {
+        VerifyFault::Nest { instruction } => at(instruction, b"Nest"),
+        VerifyFault::Target { instruction } => at(instruction, b"Target"),
+        VerifyFault::Id { instruction } => at(instruction, b"Id"),
+        VerifyFault::OutOfMemory => at(0, b"OutOfMemory"),
     }
 }
 

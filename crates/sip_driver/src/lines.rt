@@ -32,13 +32,13 @@ pub fn write_unwritten<K: Sink>(err: &mut K, name: &[u8]) -> Result<(), Failed>
     }
 }
 
-/// `FRONT LINE: KIND`
+/// `FRONT PLACE: KIND`
 pub fn write_told<K: Sink>(err: &mut K, front: &[u8], told: Told) -> Result<(), Failed>
     ensures { Wrote (K.written err.old) (K.written err.new) (K.faults err.old) (K.faults err.new) (K.kept err.old) (K.kept err.new)
         (told_line front.now (told_of told)) result }
 {
     match err.write(front) {
-        Ok(()) => write_place(err, told.line as u64, told.kind),
+        Ok(()) => write_place(err, told.place, told.kind),
         Err(failed) => Err(failed),
     }
 }

@@ -5,8 +5,8 @@ ghost use Rattle.sip_driver.specs.Performed.{status_of, line_on};
 ghost use Rattle.sip_driver.specs.Says.{Says};
 ghost use Rattle.sip_grant.specs.Names.{named};
 
-use crate::kinds::{input_told, shape_told, side_told, syntax_told};
-use crate::say::{say, say_misfit, say_told, say_unread};
+use crate::kinds::{input_told, shape_told, side_told};
+use crate::say::{say, say_misfit, say_syntax, say_told, say_unread};
 use crate::status::Status;
 use sip_files::Sink;
 use sip_grant::Refusal;
@@ -24,7 +24,7 @@ pub fn refuse<K: Sink>(err: &mut K, program: &str, input: &str, refusal: &Refusa
             Status::READ_FAULT
         }
         Refusal::NoTree(fault) => {
-            say_told(err, b"sip: syntax line ", syntax_told(*fault));
+            say_syntax(err, *fault);
             Status::SYNTAX
         }
         Refusal::Shape(fault) => {

@@ -1,5 +1,6 @@
 mod AnswerLemmas
 mod SyntaxLemmas
+mod SourceLemmas
 mod RuledLemmas
 mod FittedLemmas
 mod LoadLemmas

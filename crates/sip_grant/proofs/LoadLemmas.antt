@@ -1,7 +1,6 @@
 -- What loads one after another show of the texts that they read.
 use Rattle.std.proofs.Common.{◌≡◌, ℕ, List, [], ◌∷◌, Ok, inl, inr, refl, sym, subst}
 use Rattle.sip_files.specs.Loading.{LoadOf}
-use Rattle.sial_parser.specs.Words.{IsTextOf}
 use Rattle.input_text.specs.Texts.{IsInputOf}
 use Rattle.sial_syntax.specs.Tree.{Tree, tree}
 use Rattle.sip_grant.specs.Granting.{IsGrantedFor}
@@ -9,6 +8,7 @@ use Rattle.sip_grant.specs.Loads.{IsUnread, IsStarved, AreRead}
 use Rattle.sip_grant.specs.Names.{Names, named, program_file, program_of, input_of, files_of}
 use Rattle.sip_grant.specs.Refusals.{ForTexts, Refuses, RefusesProgram, BlamesProgram}
 use Rattle.sip_grant.specs.Ruled.{IsRuled, BlamesInput}
+use Rattle.sip_grant.specs.Sources.{IsSourceOf}
 use Rattle.sip_grant.specs.declared.refusal.Refusal.{Refusal}
 use Rattle.sip_grant.specs.declared.refusal.Refusal.TheVariants.{NoProgram, NoTree, Shape, Sides, NoInput, BadInput, Unfit, OutOfMemory}
 use Rattle.sip_grant.specs.declared.ruled.Ruled.{Ruled}
@@ -19,7 +19,7 @@ use Rattle.sip_setting.specs.declared.granted.Granted.{Granted}
 -- both files at hand
 both_read : {F : Type 0} (load : LoadOf F) (old mid new : F) (names : Names) (text input : List ℕ) (r : Ruled) → load old (program_of names) (Ok tt) text mid → IsRuled text r → load mid (input_of names) (Ok tt) input new → AreRead load old new (files_of names) (text ∷ input ∷ [])
 both_read load old mid new names text input r loaded is again =
-    (mid, loaded, (tree r.program, record { text_is = is.text_is; rules = is.kept.rules }), (new, again, tt, refl))
+    (mid, loaded, (tree r.program, record { source_is = is.source_is; rules = is.kept.rules }), (new, again, tt, refl))
 
 -- What was granted behind both loads was granted for their texts.
 pub granted_for :
@@ -44,7 +44,7 @@ granted_for load old mid new program input text given_text r given job loaded is
   both_read load old mid new (named program input) text given_text r loaded is again,
   record {
     given = given;
-    program_is = subst (λ (p : Tree). IsTextOf text p) (sym same) is.text_is;
+    program_is = subst (λ (p : Tree). IsSourceOf text p) (sym same) is.source_is;
     input_is = input_is;
     granted = granted;
   },
@@ -73,7 +73,7 @@ refuses_texts load old mid new program input text given_text r (BadInput fault) 
   text,
   given_text,
   both_read load old mid new (named program input) text given_text r loaded is again,
-  record { program = tree r.program; program_is = record { text_is = is.text_is; rules = is.kept.rules }; fault_is = blames },
+  record { program = tree r.program; program_is = record { source_is = is.source_is; rules = is.kept.rules }; fault_is = blames },
 )
 refuses_texts load old mid new program input text given_text r (Unfit fault) loaded is again (given, input_is, first) = (
   text,
@@ -82,13 +82,13 @@ refuses_texts load old mid new program input text given_text r (Unfit fault) loa
   record {
     program = tree r.program;
     given = given;
-    program_is = record { text_is = is.text_is; rules = is.kept.rules };
+    program_is = record { source_is = is.source_is; rules = is.kept.rules };
     input_is = input_is;
     first = first;
   },
 )
 refuses_texts load old mid new program input text given_text r OutOfMemory loaded is again blames =
-    inr (inr (text, mid, loaded, inr ((tree r.program, record { text_is = is.text_is; rules = is.kept.rules }), inr (inr (given_text, new, again, inl refl)))))
+    inr (inr (text, mid, loaded, inr ((tree r.program, record { source_is = is.source_is; rules = is.kept.rules }), inr (inr (given_text, new, again, inl refl)))))
 
 -- An input that isn't read, behind a program that keeps the rules.
 pub no_input :
@@ -103,7 +103,7 @@ pub no_input :
     → IsUnread load mid new (input_of (named program input))
     → Refuses load old new (named program input) NoInput
 no_input load old mid new program input text r loaded is unread =
-    inr (text, mid, loaded, (tree r.program, record { text_is = is.text_is; rules = is.kept.rules }), inl (refl, unread))
+    inr (text, mid, loaded, (tree r.program, record { source_is = is.source_is; rules = is.kept.rules }), inl (refl, unread))
 
 -- Memory that runs out in the load of the input.
 pub starved :
@@ -118,7 +118,7 @@ pub starved :
     → IsStarved load mid new (input_of (named program input))
     → Refuses load old new (named program input) OutOfMemory
 starved load old mid new program input text r loaded is starves =
-    inr (inr (text, mid, loaded, inr ((tree r.program, record { text_is = is.text_is; rules = is.kept.rules }), inr (inl starves))))
+    inr (inr (text, mid, loaded, inr ((tree r.program, record { source_is = is.source_is; rules = is.kept.rules }), inr (inl starves))))
 
 -- What is blamed in the text of the program refuses it.
 pub refuses_program :

@@ -6,20 +6,20 @@ use Rattle.scalar_discipline.specs.declared.fault.RuleFault.TheVariants as rule
 use Rattle.shape_check.specs.Refused as shapes
 use Rattle.shape_check.specs.declared.fault.ShapeFault.{ShapeFault}
 use Rattle.shape_check.specs.declared.fault.ShapeFault.TheVariants as shape
-use Rattle.sial_parser.specs.Words.{IsTextOf}
 use Rattle.sial_syntax.specs.Shapes.{shape_fault}
 use Rattle.sial_syntax.specs.Tree.{Tree}
 use Rattle.sip_grant.specs.Refusals.{BlamesProgram}
 use Rattle.sip_grant.specs.Ruled.{BlamesTree}
+use Rattle.sip_grant.specs.Sources.{IsSourceOf}
 use Rattle.sip_grant.specs.declared.refusal.Refusal.{Refusal}
 use Rattle.sip_grant.specs.declared.refusal.Refusal.TheVariants.{NoProgram, NoTree, Shape, Sides, NoInput, BadInput, Unfit, OutOfMemory}
 
--- What is blamed in the tree is blamed in its text.
-pub tree_blames : (text : List ℕ) (p : Tree) (refusal : Refusal) → IsTextOf text p → BlamesTree p refusal → BlamesProgram text refusal
+-- What is blamed in the tree is blamed in its file.
+pub tree_blames : (text : List ℕ) (p : Tree) (refusal : Refusal) → IsSourceOf text p → BlamesTree p refusal → BlamesProgram text refusal
 tree_blames text p NoProgram is blames = absurd blames
 tree_blames text p (NoTree fault) is blames = absurd blames
-tree_blames text p (Shape fault) is blames = record { program = p; text_is = is; first = blames }
-tree_blames text p (Sides fault) is blames = record { program = p; text_is = is; shapes = blames.0; first = blames.1 }
+tree_blames text p (Shape fault) is blames = record { program = p; source_is = is; first = blames }
+tree_blames text p (Sides fault) is blames = record { program = p; source_is = is; shapes = blames.0; first = blames.1 }
 tree_blames text p NoInput is blames = absurd blames
 tree_blames text p (BadInput fault) is blames = absurd blames
 tree_blames text p (Unfit fault) is blames = absurd blames

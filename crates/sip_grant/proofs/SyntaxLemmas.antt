@@ -10,7 +10,7 @@ use Rattle.sial_parser.specs.Answers.{Fails}
 use Rattle.sial_parser.specs.Whole.{HasNoTree, IsRefused, parse_of, parse_tokens}
 use Rattle.sial_parser.specs.declared.fault.ParseFault.{ParseFault}
 use Rattle.sial_parser.specs.declared.fault.ParseFault.TheVariants.{Lex, Expected, Undeclared, Twice, EndName, TooMany, TooDeep, OutOfMemory}
-use Rattle.sip_grant.specs.Syntax.{IsFirst, IsFaultOf}
+use Rattle.sip_grant.specs.Syntax.{IsFirst, IsFaultOfText}
 
 by_tokens : (text : List ℕ) (fault : ParseFault) (answer : Result (List Token) LexFault) → lex_of text ≡ answer → parse_tokens text answer ≡ Err fault → parse_of text ≡ Err fault → IsFirst text fault
 by_tokens text fault (Ok tokens) lexed read e =
@@ -21,11 +21,11 @@ by_tokens text fault (Err lex) lexed read e = let same : fault ≡ Lex lex = cc 
 first_is : (text : List ℕ) (fault : ParseFault) → parse_of text ≡ Err fault → IsFirst text fault
 first_is text fault e = by_tokens text fault (lex_of text) refl e e
 
-fault_by : (text : List ℕ) (fault : ParseFault) → HasNoTree text → parse_of text ≡ Err fault → fault ≢ OutOfMemory → IsFaultOf text fault
+fault_by : (text : List ℕ) (fault : ParseFault) → HasNoTree text → parse_of text ≡ Err fault → fault ≢ OutOfMemory → IsFaultOfText text fault
 fault_by text fault none found not = record { no_tree = none; first = first_is text fault found; no_want = not }
 
 -- What `parse` refuses with, unless memory ran out, is the text's fault.
-pub fault_is : (text : List ℕ) (fault : ParseFault) → IsRefused text fault → Fails fault (parse_of text) → fault ≢ OutOfMemory → IsFaultOf text fault
+pub fault_is : (text : List ℕ) (fault : ParseFault) → IsRefused text fault → Fails fault (parse_of text) → fault ≢ OutOfMemory → IsFaultOfText text fault
 fault_is text OutOfMemory none found not = absurd (not refl)
 fault_is text (Lex fault) none found not = fault_by text (Lex fault) none found not
 fault_is text (Expected line) none found not = fault_by text (Expected line) none found not

@@ -1,4 +1,5 @@
 pub mod Names
+pub mod Sources
 pub mod Programs
 pub mod Syntax
 pub mod Granting

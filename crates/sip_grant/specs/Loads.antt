@@ -4,7 +4,7 @@ use Rattle.std.specs.FinMap as map
 use Rattle.sip_files.specs.Files.{Folder}
 use Rattle.sip_files.specs.Loading.{Wanted, LoadOf}
 use Rattle.sip_files.specs.declared.fault.LoadFault.TheVariants.{Failed, Missing, TooLong, OutOfMemory}
-use Rattle.sip_grant.specs.Programs.{IsProgramText}
+use Rattle.sip_grant.specs.Programs.{IsProgramFile}
 
 -- what a file has to hold before the next one is loaded
 pub data Content : Type 0 where
@@ -18,7 +18,7 @@ pub record Reads : Type 0 where
 
 -- a text holds what is asked of it
 abbrev pub Holds : Content → List ℕ → Type 0
-Holds RuledProgram text = IsProgramText text
+Holds RuledProgram text = IsProgramFile text
 Holds AnyText text = Unit {0}
 
 -- each file was read, in this order, each holds what is asked of it, and nothing else was loaded

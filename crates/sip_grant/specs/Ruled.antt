@@ -5,12 +5,12 @@ use Rattle.index_spaces.specs.declared.fault.SpaceFault.{SpaceFault}
 use Rattle.input_text.specs.Texts as input
 use Rattle.scalar_discipline.specs.Discipline as sides
 use Rattle.shape_check.specs.Refused as shapes
-use Rattle.sial_parser.specs.Words.{IsTextOf}
 use Rattle.sial_syntax.specs.Proper.{IsProper}
 use Rattle.sial_syntax.specs.Shapes.{shape_fault}
 use Rattle.sial_syntax.specs.SideRules.{side_fault}
 use Rattle.sial_syntax.specs.Sides.{scalar_classes, array_sides}
 use Rattle.sial_syntax.specs.Tree.{Tree, tree}
+use Rattle.sip_grant.specs.Sources.{IsSourceOf}
 use Rattle.sip_grant.specs.declared.refusal.Refusal.{Refusal}
 use Rattle.sip_grant.specs.declared.refusal.Refusal.TheVariants.{NoProgram, NoTree, Shape, Sides, NoInput, BadInput, Unfit, OutOfMemory}
 use Rattle.sip_grant.specs.declared.ruled.Ruled.{Ruled}
@@ -24,9 +24,9 @@ pub record IsKept (r : Ruled) : Type 0 where
   pub scalars : r.classes.scalars.items ≡ scalar_classes (tree r.program)
   pub locals : r.classes.locals.items ≡ array_sides (tree r.program)
 
--- the program of a text
-pub record IsRuled (text : List ℕ) (r : Ruled) : Type 0 where
-  pub text_is : IsTextOf text (tree r.program)
+-- the program of a file
+pub record IsRuled (file : List ℕ) (r : Ruled) : Type 0 where
+  pub source_is : IsSourceOf file (tree r.program)
   pub kept : IsKept r
 
 -- which rule a tree breaks first, or that memory ran out

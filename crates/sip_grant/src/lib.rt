@@ -3,10 +3,11 @@
 
 mod fitted;
 mod granted;
+mod reading;
 mod refusal;
 mod ruled;
 mod text;
 
 pub use granted::{load_granted, load_program};
-pub use refusal::Refusal;
+pub use refusal::{Refusal, SyntaxFault};
 pub use ruled::Ruled;

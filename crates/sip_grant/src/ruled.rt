@@ -1,8 +1,6 @@
-//! The program of a text, if it keeps the rules.
+//! The program of a file, if it keeps the rules.
 
 ghost use Rattle.std.specs.Prelude.{◌≡◌, ◌≤◌, None, length, IfOk, IfErr, OnOk};
-ghost use Rattle.sial_parser.specs.Words.{IsTextOf};
-ghost use Rattle.sial_syntax.specs.Proper.{IsProper};
 ghost use Rattle.sial_syntax.specs.Shapes.{shape_fault};
 ghost use Rattle.sial_syntax.specs.Sides as rules;
 ghost use Rattle.sial_syntax.specs.Tree.{tree};
@@ -10,10 +8,10 @@ ghost use Rattle.sip_grant.specs.Refusals.{BlamesProgram};
 ghost use Rattle.sip_grant.specs.Ruled.{IsRuled, BlamesTree};
 ghost use Rattle.sip_setting.specs.Grants.{KeepsRules};
 
+use crate::reading::read_source;
 use crate::refusal::Refusal;
 use scalar_discipline::{RuleFault, classify};
 use shape_check::{ShapeFault, shapes};
-use sial_parser::{ParseFault, parse};
 use sial_syntax::{Classes, Program};
 use std::alloc::Global;
 
@@ -24,33 +22,19 @@ pub struct Ruled {
     pub classes: Classes,
 }
 
-/// The program of a text, if it keeps the rules.
+/// The program of a file, if it keeps the rules.
 #[tactic(auto, using(crate::proofs::RuledLemmas::tree_blames))]
-pub fn read_ruled(alloc: Global, text: &[u8]) -> Result<Ruled, Refusal>
-    ensures found { IfOk result (IsRuled text.now) }
-    ensures blames { IfErr result (BlamesProgram text.now) }
+pub fn read_ruled(alloc: Global, file: &[u8]) -> Result<Ruled, Refusal>
+    ensures found { IfOk result (IsRuled file.now) }
+    ensures blames { IfErr result (BlamesProgram file.now) }
 {
-    let program = match tree_of(alloc, text) {
+    let program = match read_source(alloc, file) {
         Ok(program) => program,
         Err(refusal) => return Err(refusal),
     };
     match classes_of(alloc, &program) {
         Ok(classes) => Ok(Ruled { program, classes }),
         Err(refusal) => Err(refusal),
-    }
-}
-
-// The tree of a program's text.
-#[tactic(auto, using(crate::proofs::SyntaxLemmas::fault_is))]
-fn tree_of(alloc: Global, text: &[u8]) -> Result<Program, Refusal>
-    ensures found { IfOk result (λ p. IsTextOf text.now (tree p)) }
-    ensures proper { IfOk result (λ p. IsProper (tree p)) }
-    ensures blames { IfErr result (BlamesProgram text.now) }
-{
-    match parse(alloc, text) {
-        Ok(program) => Ok(program),
-        Err(ParseFault::OutOfMemory) => Err(Refusal::OutOfMemory),
-        Err(fault) => Err(Refusal::NoTree(fault)),
     }
 }
 
