@@ -7,5 +7,7 @@ mod procedures;
 mod reads;
 mod statements;
 mod steps;
+mod words;
 
 pub use steps::sequential_steps;
+pub use words::sequential_words;
