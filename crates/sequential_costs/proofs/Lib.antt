@@ -4,3 +4,4 @@ mod CalledLemmas
 mod SumLemmas
 mod CuttingLemmas
 mod ReadLemmas
+pub mod StepsAreFew
