@@ -5,3 +5,4 @@ mod SumLemmas
 mod CuttingLemmas
 mod ReadLemmas
 mod WordLemmas
+pub mod StepsAreFew

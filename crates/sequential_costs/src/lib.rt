@@ -3,6 +3,7 @@
 
 mod arithmetic;
 mod cutting;
+pub mod laws;
 mod procedures;
 mod reads;
 mod statements;
