@@ -10,3 +10,4 @@ pub mod SoonerLemmas
 pub mod WalkLemmas
 pub mod GrantedLemmas
 pub mod OwnLemmas
+pub mod ElementLemmas

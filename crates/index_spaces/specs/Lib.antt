@@ -7,3 +7,4 @@ pub mod Found
 pub mod Walk
 pub mod Starting
 pub mod Widest
+pub mod Elements

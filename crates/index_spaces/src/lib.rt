@@ -5,6 +5,7 @@ mod arrays;
 mod blocks;
 mod boxes;
 mod cuts;
+mod elements;
 mod extent;
 mod fault;
 mod given;

@@ -79,7 +79,7 @@ impl Spaces {
 
     /// How many words the widest block over some indices has, as far as a `u64` goes.
     #[tactic(auto, using(crate::proofs::BoundLemmas::min_product))]
-    pub(crate) fn widest_block(&self, indices: &[u16]) -> u64
+    pub fn widest_block(&self, indices: &[u16]) -> u64
         ensures { result ≡ min (widest_block self.now.spaces indices.now) (2 ^ 64 - 1) }
     {
         match indices {

@@ -4,3 +4,5 @@ mod CalledLemmas
 mod SumLemmas
 mod CuttingLemmas
 mod ReadLemmas
+mod WordLemmas
+pub mod StepsAreFew

@@ -1,3 +1,4 @@
 pub mod Cuttings
 pub mod Called
 pub mod Over
+pub mod FewSteps

@@ -3,9 +3,12 @@
 
 mod arithmetic;
 mod cutting;
+pub mod laws;
 mod procedures;
 mod reads;
 mod statements;
 mod steps;
+mod words;
 
 pub use steps::sequential_steps;
+pub use words::sequential_words;
