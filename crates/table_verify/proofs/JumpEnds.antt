@@ -262,7 +262,7 @@ module _ (entries : List ℕ) where
       (procedures_same (place + procedure_size q) (text + length (body_prints q.body)) qs))
       (same (ap (λ (n : ℕ). body_told place q.body ++ procedures_told n qs) near)))
 
-program_same : (p : Tree) → Same (jumps 0 (flatten p).code) (program_told p)
+pub program_same : (p : Tree) → Same (jumps 0 (flatten p).code) (program_told p)
 program_same p =
     let text = length (names p) in
     let es = entries_of p in

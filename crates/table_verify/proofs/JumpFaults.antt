@@ -98,7 +98,7 @@ below_after place EndProgram heads b = below_more place heads b
 below_after place EndProcedure heads b = below_more place heads b
 
 -- a jump that is told stands and reaches within
-abbrev Within : ℕ → Jump → Type 0
+abbrev pub Within : ℕ → Jump → Type 0
 Within end x = (x.at < end) × (x.reach ≤ end)
 
 head_within : (x : Jump) (place h : ℕ) → h < place → x ≡ leap h (place + 1) → Within (place + 1) x
@@ -133,7 +133,7 @@ here_within place EndProcedure heads x b i = absurd i
 within_more : (x : Jump) (n m : ℕ) → n ≤ m → Within n x → Within m x
 within_more x n m l w = let a = w.0 in let r = w.1 in (omega (arith, l, a), omega (arith, l, r))
 
-told_within : (place : ℕ) (heads : List ℕ) (ms : List Mark) (x : Jump) → Below place heads → IsIn x (all_told place heads ms) → Within (place + length ms) x
+pub told_within : (place : ℕ) (heads : List ℕ) (ms : List Mark) (x : Jump) → Below place heads → IsIn x (all_told place heads ms) → Within (place + length ms) x
 told_within place heads [] x b i = absurd i
 told_within place heads (m ∷ ms) x b i =
     case (Within (place + suc (length ms)) x) (in_either x (told place m.role heads) (all_told (place + 1) (open_after place m.role heads) ms) i)
@@ -180,7 +180,7 @@ one_jump place (op.EndPardo to) x y (inr e) j = absurd e
 one_jump place (op.EndPardo to) x y (inl e) (inr f) = absurd f
 one_jump place _ x y i j = absurd i
 
-jump_place : (place : ℕ) (o : Operation) (x : Jump) → IsIn x (jump place o) → x.at ≡ place
+pub jump_place : (place : ℕ) (o : Operation) (x : Jump) → IsIn x (jump place o) → x.at ≡ place
 jump_place place (op.Do index past) x (inl e) = place_is x place past e
 jump_place place (op.DoIn sub index past) x (inl e) = place_is x place past e
 jump_place place (op.EndDo to) x (inl e) = place_is x place to e
@@ -197,7 +197,7 @@ jump_place place (op.Pardo indices end) x (inr e) = absurd e
 jump_place place (op.EndPardo to) x (inr e) = absurd e
 jump_place place _ x i = absurd i
 
-jumps_from : (place : ℕ) (code : List Instruction) (x : Jump) → IsIn x (jumps place code) → place ≤ x.at
+pub jumps_from : (place : ℕ) (code : List Instruction) (x : Jump) → IsIn x (jumps place code) → place ≤ x.at
 jumps_from place [] x i = absurd i
 jumps_from place (o ∷ code) x i =
     case (place ≤ x.at) (in_either x (jump place o.operation) (jumps (place + 1) code) i)
@@ -306,7 +306,7 @@ some_jump t count w f e =
 
 -- ---- how many instructions begin a program
 
-begins_less : (t : Lists) (m n : ℕ) → m ≤ n → Begins n t → Begins m t
+pub begins_less : (t : Lists) (m n : ℕ) → m ≤ n → Begins n t → Begins m t
 begins_less t m n l b =
     let p = b.0 in
     let a = b.1 in (

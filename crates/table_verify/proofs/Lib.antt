@@ -23,3 +23,13 @@ pub mod StartEnds
 pub mod TargetLemmas
 pub mod OutsideLemmas
 pub mod NumberLemmas
+pub mod Filling
+pub mod FilledOnes
+pub mod LastInstructions
+pub mod FilledLoops
+pub mod FilledBranches
+pub mod FilledBodies
+pub mod FilledProcedures
+pub mod NoFault
+pub mod SoundTables
+pub mod FirstLemmas

@@ -3,8 +3,8 @@ use Rattle.std.proofs.Common.{◌≡◌, ℕ, zero, suc, ◌+◌, ◌<◌, lengt
 use Rattle.std.proofs.lemmas.List.{drop_more}
 use Rattle.sial_syntax.specs.declared.condition.Cond.{Cond}
 use Rattle.sial_syntax.specs.Tree.{Block, Plain, block_of}
-use Rattle.table_verify.specs.declared.fault.VerifyFault.{VerifyFault}
-use Rattle.table_verify.specs.declared.fault.VerifyFault.TheVariants.{NotAProgram, OutOfMemory}
+use Rattle.table_verify.specs.declared.read_fault.ReadFault.{ReadFault}
+use Rattle.table_verify.specs.declared.read_fault.ReadFault.TheVariants.{NotAProgram, OutOfMemory}
 use Rattle.table_verify.specs.Rest.{Left, Read, Fails, ◌>>=◌}
 use Rattle.table_verify.specs.Closings.{begin, more, where_at, wheres}
 use Rattle.table_verify.specs.Names.{each}
@@ -62,7 +62,7 @@ pub turns_on : (entries : List ℕ) (most : ℕ) (inner : Inner) (n m : ℕ) (fr
 turns_on entries most inner n m front left whole x behind is leads begins found = turned entries most inner n m front left whole (Some (x, behind)) is leads begins found
 
 -- a statement that isn't read
-pub turns_fail : (entries : List ℕ) (most : ℕ) (inner : Inner) (n m : ℕ) (front : List (ℕ × Plain)) (left : Left) (whole : Read Block) (fault : VerifyFault) → n ≡ suc m → turns entries most inner n front left ≡ whole → begin left.code ≡ true
+pub turns_fail : (entries : List ℕ) (most : ℕ) (inner : Inner) (n m : ℕ) (front : List (ℕ × Plain)) (left : Left) (whole : Read Block) (fault : ReadFault) → n ≡ suc m → turns entries most inner n front left ≡ whole → begin left.code ≡ true
     → Fails fault (statement entries most inner left) → Fails fault whole
 turns_fail entries most inner n m front left whole NotAProgram is leads begins found = sym (turned entries most inner n m front left whole None is leads begins found)
 turns_fail entries most inner n m front left whole OutOfMemory is leads begins found = tt
@@ -84,7 +84,7 @@ pub each_on : {E D : Type 0} (read : E → Left → Read D) (front : List D) (xs
 each_on read front xs ys e left whole x behind leads given split = eached read front xs ys e left whole (Some (x, behind)) leads given split
 
 -- an entry that isn't read
-pub each_fail : {E D : Type 0} (read : E → Left → Read D) (front : List D) (xs ys : List E) (e : E) (left : Left) (whole : Read (List D)) (fault : VerifyFault) → each read front xs left ≡ whole → Fails fault (read e left)
+pub each_fail : {E D : Type 0} (read : E → Left → Read D) (front : List D) (xs ys : List E) (e : E) (left : Left) (whole : Read (List D)) (fault : ReadFault) → each read front xs left ≡ whole → Fails fault (read e left)
     → xs ≡ e ∷ ys → Fails fault whole
 each_fail read front xs ys e left whole NotAProgram leads given split = sym (eached read front xs ys e left whole None leads given split)
 each_fail read front xs ys e left whole OutOfMemory leads given split = tt

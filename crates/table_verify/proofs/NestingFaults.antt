@@ -168,12 +168,12 @@ not_begins t place b (p, a) =
     no_more (outline (flatten p).code) b.front b.back place (start (length t.procedures)) b.state (program_passes p (length t.procedures) a.procedures a.nested) b.many b.runs b.stuck
     (a.front ∙ ap (λ (l : List Mark). take (place + 1) l) b.is)
 
-fault_at : (t : Lists) (place : ℕ) → broken_at 0 (outline t.code) (start (length t.procedures)) ≡ Some place → NestAt place t
+pub fault_at : (t : Lists) (place : ℕ) → broken_at 0 (outline t.code) (start (length t.procedures)) ≡ Some place → NestAt place t
 fault_at t place e =
     let b = finds [] (outline t.code) 0 place (start (length t.procedures)) (start (length t.procedures)) refl refl e in
     (begins_here t place b, not_begins t place b)
 
-no_fault : (t : Lists) → broken_at 0 (outline t.code) (start (length t.procedures)) ≡ None → (p : Tree) × Nests t p
+pub no_fault : (t : Lists) → broken_at 0 (outline t.code) (start (length t.procedures)) ≡ None → (p : Tree) × Nests t p
 no_fault t e =
     let x = passes (outline t.code) 0 (start (length t.procedures)) e in
     let p = program_of (length t.procedures) (outline t.code) x.end x.runs x.over in

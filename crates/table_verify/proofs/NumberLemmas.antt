@@ -1,5 +1,5 @@
 -- The first instruction that names what isn't there.
-use Rattle.std.proofs.Common.{◌≡◌, ◌⊎◌, inl, inr, ℕ, zero, suc, ◌+◌, ◌≤◌, ◌<◌, List, [], ◌∷◌, ◌++◌, Bool, true, false, ◌&&◌, ◌==◌, cond, nat_lt, length, map, take, drop, Option, Some, None, refl, sym, ap, subst, ◌∙◌, arith}
+use Rattle.std.proofs.Common.{◌≡◌, inr, ℕ, zero, suc, ◌+◌, ◌<◌, List, [], ◌∷◌, Bool, true, false, ◌&&◌, ◌==◌, cond, nat_lt, length, take, Option, Some, None, refl, sym, ap, subst, ◌∙◌, arith}
 use Rattle.std.specs.Prelude.{option_map, slice_get}
 use Rattle.std.proofs.lemmas.Bool.{eqb-true}
 use Rattle.std.proofs.lemmas.List.{length-take-le, take-take}
@@ -15,7 +15,7 @@ use Rattle.table_verify.specs.NumberFaults.{OutsideIsRight, InstructionIsOther, 
 use Rattle.table_verify.specs.Numbering.{declared, next_after, first_other}
 use Rattle.table_verify.specs.Things.{names_things, is_printed, prints_next, is_right, prints_of, prints_in}
 use Rattle.table_verify.proofs.Closed.{both}
-use Rattle.table_verify.proofs.OutsideLemmas.{same_names, many_procedures, IsFound, declared_found, found_declared}
+use Rattle.table_verify.proofs.OutsideLemmas.{many_procedures, declared_found, found_declared}
 use Rattle.table_verify.proofs.FirstOf.{first_more}
 use Rattle.table_verify.proofs.JumpFaults.{one_front}
 use Rattle.table_verify.proofs.TablesAgain.{headed}
@@ -27,11 +27,11 @@ things_same : (p : Tree) (o : Operation) → names_things (headed p) o ≡ names
 things_same p (op.Call procedure entry) = ap (λ (n : ℕ). nat_lt procedure n) (many_procedures p)
 things_same p _ = refl
 
-right_same : (p : Tree) (texts : List (List ℕ)) (next : ℕ) (o : Operation) → is_right (headed p) texts next o ≡ is_right p texts next o
+pub right_same : (p : Tree) (texts : List (List ℕ)) (next : ℕ) (o : Operation) → is_right (headed p) texts next o ≡ is_right p texts next o
 right_same p texts next o = ap (λ (b : Bool). b && prints_next texts next o) (things_same p o)
 
 -- the next text behind an operation that is right
-after_is : (p : Tree) (texts : List (List ℕ)) (next : ℕ) (o : Operation) → is_right p texts next o ≡ true → next_after next o ≡ next + prints_of o
+pub after_is : (p : Tree) (texts : List (List ℕ)) (next : ℕ) (o : Operation) → is_right p texts next o ≡ true → next_after next o ≡ next + prints_of o
 after_is p texts next (op.Print number) e =
     let b = both (names_things p (op.Print number)) (prints_next texts next (op.Print number)) e in
     let c = both (number == next) (is_printed (slice_get texts number)) b.1 in
@@ -41,12 +41,12 @@ after_is p texts next _ e = omega arith
 -- ---- all instructions
 
 -- an instruction of code that isn't right, where this text is the next one
-record Other (p : Tree) (texts : List (List ℕ)) (next : ℕ) (code : List Instruction) (turn : ℕ) : Type 0 where
-  one : Instruction
-  is : slice_get code turn ≡ Some one
-  wrong : is_right p texts (next + prints_in (take turn code)) one.operation ≡ false
+pub record Other (p : Tree) (texts : List (List ℕ)) (next : ℕ) (code : List Instruction) (turn : ℕ) : Type 0 where
+  pub one : Instruction
+  pub is : slice_get code turn ≡ Some one
+  pub wrong : is_right p texts (next + prints_in (take turn code)) one.operation ≡ false
 
-abbrev FirstOther : Tree → List (List ℕ) → (next place : ℕ) → List Instruction → Option ℕ → Type 0
+abbrev pub FirstOther : Tree → List (List ℕ) → (next place : ℕ) → List Instruction → Option ℕ → Type 0
 FirstOther p texts next place code None = (turn : ℕ) → Other p texts next code turn → ⊥
 FirstOther p texts next place code (Some at) = (turn : ℕ) × (at ≡ place + turn) × Other p texts next code turn × ((before : ℕ) → before < turn → Other p texts next code before → ⊥)
 
@@ -87,7 +87,7 @@ module _ (p : Tree) (texts : List (List ℕ)) (next : ℕ) (i : Instruction) (co
       let is = f.1 in
       (suc turn, omega (arith, is), before_it turn f.2, none_before turn sure f.3)
 
-first_other_is : (p : Tree) (texts : List (List ℕ)) (next place : ℕ) (code : List Instruction) (found : Option ℕ) → first_other p texts next place code ≡ found → FirstOther p texts next place code found
+pub first_other_is : (p : Tree) (texts : List (List ℕ)) (next place : ℕ) (code : List Instruction) (found : Option ℕ) → first_other p texts next place code ≡ found → FirstOther p texts next place code found
 first_other_is p texts next place [] None e = λ turn x. nothing turn x
   where
     nothing : (turn : ℕ) → Other p texts next [] turn → ⊥
@@ -146,7 +146,7 @@ module _ (t : Lists) (count : ℕ) (f : IsFront count t) (q : Tree) (next : ℕ)
             ∙ (right_same y.program t.texts (length (names y.program) + prints_in (take place t.code)) y.instruction.operation ∙ y.other)));
       }
 
-  instructions_first : (found : Option ℕ) → FirstOther q t.texts next 0 (take count t.code) found → IsFirst (λ (n : ℕ). InstructionIsOther n t) found
+  pub instructions_first : (found : Option ℕ) → FirstOther q t.texts next 0 (take count t.code) found → IsFirst (λ (n : ℕ). InstructionIsOther n t) found
   instructions_first None none = λ place y. none place (of_other place y)
   instructions_first (Some place) x =
       let turn = x.0 in

@@ -1,16 +1,13 @@
 -- What tables declare is what the reader of names finds.
-use Rattle.std.proofs.Common.{◌≡◌, ◌⊎◌, inl, inr, ℕ, zero, suc, ◌+◌, ◌-◌, ◌≤◌, ◌<◌, List, [], ◌∷◌, ◌++◌, Bool, true, false, ◌&&◌, cond, nat_le, length, map, sum_by, Option, Some, None, refl, sym, ap, subst, ◌∙◌, arith}
-use Rattle.std.specs.Prelude.{IsTrue}
+use Rattle.std.proofs.Common.{◌≡◌, ℕ, ◌-◌, ◌≤◌, List, [], ◌∷◌, ◌++◌, true, ◌&&◌, cond, nat_le, length, map, sum_by, Some, None, refl, sym, ap, subst, ◌∙◌, arith}
 use Rattle.std.specs.List.{AllByRecursion, list_all}
 use Rattle.std.proofs.lemmas.Bool.{le-leb}
 use Rattle.std.proofs.lemmas.List.{length-map}
-use Rattle.sial_syntax.specs.declared.index.IndexDecl.{IndexDecl}
-use Rattle.sial_syntax.specs.Limits.{most_names, most_nesting, most_statements}
+use Rattle.sial_syntax.specs.Limits.{most_names, most_statements}
 use Rattle.sial_syntax.specs.Names.{is_name}
 use Rattle.sial_syntax.specs.Numbering.{statements}
 use Rattle.sial_syntax.specs.Proper.{IsProper, proper_body, all_statements}
-use Rattle.sial_syntax.specs.Tree.{Tree, Procedure, Block, End}
-use Rattle.sip_tables.specs.declared.instruction.Instruction.{Instruction}
+use Rattle.sial_syntax.specs.Tree.{Tree, Procedure}
 use Rattle.sip_tables.specs.declared.procedure.ProcedureEntry.{ProcedureEntry}
 use Rattle.sip_tables.specs.Entries.{procedure_entries}
 use Rattle.sip_tables.specs.Flatten.{flatten}
@@ -18,18 +15,16 @@ use Rattle.sip_tables.specs.Lists.{Lists}
 use Rattle.sip_tables.specs.Texts.{names, scalar_names}
 use Rattle.table_verify.specs.NumberFaults.{Declares, OutsideIsRight}
 use Rattle.table_verify.specs.Numbering.{passes_heads, is_used, declared}
-use Rattle.table_verify.specs.Numbers.{body_numbers}
-use Rattle.table_verify.specs.Passing.{passes_lists, passes_names, passes_procedure, passes_bodies, passes, procedures_numbers, all_numbers}
+use Rattle.table_verify.specs.Passing.{passes_lists, passes_names, passes_procedure, passes_bodies, procedures_numbers}
 use Rattle.table_verify.specs.Reading.{entries_in, heads}
 use Rattle.table_verify.specs.Rest.{Left}
 use Rattle.table_verify.specs.Things.{prints_in, begun_in}
 use Rattle.table_verify.proofs.Closed.{then_some, kept, both}
-use Rattle.table_verify.proofs.NamesAgain.{FitsRange, emptied}
+use Rattle.table_verify.proofs.NamesAgain.{emptied}
 use Rattle.table_verify.proofs.Passed.{passed, proper_passes, indices_fit, together, at_most}
-use Rattle.table_verify.proofs.ProgramFound.{IsShallow, HeadsFound, heads_found}
+use Rattle.table_verify.proofs.ProgramFound.{IsShallow, heads_found}
 use Rattle.table_verify.proofs.StatementsAgain.{state}
 use Rattle.table_verify.proofs.TablesAgain.{headed, heads_of}
-use Rattle.table_verify.proofs.TablesFound.{IsShallowTree}
 
 -- ---- a program without its statements
 

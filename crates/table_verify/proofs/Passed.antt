@@ -1,6 +1,6 @@
 -- A program that was read and passes is proper, and a proper one is read from its tables and passes.
-use Rattle.std.proofs.Common.{◌≡◌, ℕ, ◌+◌, ◌<◌, ◌≤◌, ◌^◌, List, [], ◌∷◌, ◌++◌, Bool, true, false, ◌&&◌, cond, nat_lt, nat_le, length, Option, Some, None, Result, Ok, Err, refl, sym, ap, subst, ◌∙◌, arith, append-nil}
-use Rattle.std.specs.Prelude.{IsTrue, IfOk}
+use Rattle.std.proofs.Common.{◌≡◌, ℕ, ◌+◌, ◌<◌, ◌≤◌, ◌^◌, List, [], ◌∷◌, ◌++◌, Bool, true, false, ◌&&◌, cond, nat_lt, nat_le, length, Option, Some, None, Err, refl, sym, ap, subst, ◌∙◌, arith, append-nil}
+use Rattle.std.specs.Prelude.{IsTrue}
 use Rattle.std.specs.List.{AllByRecursion, list_all, flat_map, enumerate_from}
 use Rattle.std.proofs.lemmas.Bool.{le-leb, lt-ltb}
 use Rattle.std.proofs.lemmas.Bool.Decides.{nat_tests}
@@ -19,12 +19,10 @@ use Rattle.sial_syntax.specs.Visits.{Visit, visits, inner_visits, body_visits, a
 use Rattle.sip_tables.specs.Flatten.{flatten}
 use Rattle.sip_tables.specs.Lists.{Lists}
 use Rattle.table_verify.specs.declared.fault.VerifyFault.{VerifyFault}
-use Rattle.table_verify.specs.declared.fault.VerifyFault.TheVariants.{NotAProgram, OutOfMemory}
 use Rattle.table_verify.specs.Answers.{Answers}
 use Rattle.table_verify.specs.Numbers.{form_numbers, body_numbers}
 use Rattle.table_verify.specs.Passing.{passes_procedure, passes_names, passes_bodies, passes_lists, passes, verified, procedures_numbers, all_numbers}
 use Rattle.table_verify.specs.Reading.{read}
-use Rattle.table_verify.specs.Rest.{Gives}
 use Rattle.table_verify.proofs.Closed.{then_some, kept, both}
 use Rattle.table_verify.proofs.ProgramFound.{IsShallow}
 use Rattle.table_verify.proofs.TablesFound.{IsShallowTree, tables_found}
@@ -194,21 +192,25 @@ verified_again p h =
 
 -- ---- answers
 
-pub found_from : (t : Lists) (r : Result Program VerifyFault) → Gives tree r (verified t) → IfOk r (λ q. flatten (tree q) ≡ t)
-found_from t (Ok q) gives = (verified_found t (tree q) gives).0
-found_from t (Err fault) gives = tt
+pub ok_found : (t : Lists) (q : Program) → verified t ≡ Some (tree q) → flatten (tree q) ≡ t
+ok_found t q gives = (verified_found t (tree q) gives).0
 
-pub proper_from : (t : Lists) (r : Result Program VerifyFault) → Gives tree r (verified t) → IfOk r (λ q. IsTrue (all_numbers (tree q))) → IfOk r (λ q. IsProper (tree q))
-proper_from t (Ok q) gives numbers = let f = verified_found t (tree q) gives in passed (tree q) f.1.1 numbers f.1.0
-proper_from t (Err fault) gives numbers = tt
+pub ok_proper : (t : Lists) (q : Program) → verified t ≡ Some (tree q) → IsTrue (all_numbers (tree q)) → IsProper (tree q)
+ok_proper t q gives numbers = let f = verified_found t (tree q) gives in passed (tree q) f.1.1 numbers f.1.0
 
-pub only_from : (t : Lists) (r : Result Program VerifyFault) → Gives tree r (verified t) → (p : Tree) → IsProper p → flatten p ≡ t → Answers p r
-only_from t (Ok q) gives p proper same =
+pub ok_only : (t : Lists) (q : Program) → verified t ≡ Some (tree q) → (p : Tree) → IsProper p → flatten p ≡ t → tree q ≡ p
+ok_only t q gives p proper same =
     let e : verified t ≡ Some p = ap verified (sym same) ∙ verified_again p proper in
     let f : ◌≡◌ {A = Option Tree} (Some (tree q)) (Some p) = sym gives ∙ e in
     cc
-only_from t (Err NotAProgram) gives p proper same =
+
+-- tables of which no program is read are those of no proper one
+pub none_only : (t : Lists) → verified t ≡ None → (p : Tree) → IsProper p → flatten p ≡ t → ⊥
+none_only t gives p proper same =
     let e : verified t ≡ Some p = ap verified (sym same) ∙ verified_again p proper in
     let f : ◌≡◌ {A = Option Tree} None (Some p) = sym gives ∙ e in
     absurd cc
-only_from t (Err OutOfMemory) gives p proper same = tt
+
+-- then any answer is right
+pub err_only : (t : Lists) (fault : VerifyFault) → verified t ≡ None → (p : Tree) → IsProper p → flatten p ≡ t → Answers p (Err fault)
+err_only t fault gives p proper same = absurd (none_only t gives p proper same)

@@ -28,10 +28,10 @@ use Rattle.table_verify.proofs.StartEnds.{starts, starts_of, starts_append, star
 -- ---- where procedures start
 
 -- the starts that so many instructions tell
-abbrev known : Lists → (count : ℕ) → List ℕ
+abbrev pub known : Lists → (count : ℕ) → List ℕ
 known t count = starts 0 (outline (take count t.code))
 
-length_entries : (place : ℕ) (qs : List Procedure) → length (entries_from place qs) ≡ length qs
+pub length_entries : (place : ℕ) (qs : List Procedure) → length (entries_from place qs) ≡ length qs
 length_entries place [] = refl
 length_entries place (q ∷ qs) = ap suc (length_entries (place + procedure_size q) qs)
 
@@ -259,7 +259,7 @@ of_call t count f place y =
           ∙ and_from (nat_lt y.procedure (length t.procedures)) (is_other (known t count) y.procedure y.entry) (lt-ltb y.procedure (length t.procedures) few) other;
     }
 
-call_first : (t : Lists) (count : ℕ) (f : IsFront count t) → IsFirst (λ (n : ℕ). CallIsOther n t) (first_call (length t.procedures) (known t count) 0 (take count t.code))
+pub call_first : (t : Lists) (count : ℕ) (f : IsFront count t) → IsFirst (λ (n : ℕ). CallIsOther n t) (first_call (length t.procedures) (known t count) 0 (take count t.code))
 call_first t count f = of_found (first_call (length t.procedures) (known t count) 0 (take count t.code)) (first_call_is (length t.procedures) (known t count) 0 (take count t.code) (first_call (length t.procedures) (known t count) 0 (take count t.code)) refl)
   where
     of_found : (found : Option ℕ) → FirstCall (length t.procedures) (known t count) 0 (take count t.code) found → IsFirst (λ (n : ℕ). CallIsOther n t) found
@@ -270,7 +270,7 @@ call_first t count f = of_found (first_call (length t.procedures) (known t count
         let same : turn ≡ place = omega (arith, is) in
         (subst (λ (n : ℕ). CallIsOther n t) same (call_of t count f turn x.2), λ before l y. x.3 before (omega (arith, l, same)) (of_call t count f before y))
 
-entry_of : (t : Lists) (count : ℕ) (f : IsFront count t) → some_other (known t count) 0 t.procedures ≡ true → EntryIsOther t
+pub entry_of : (t : Lists) (count : ℕ) (f : IsFront count t) → some_other (known t count) 0 t.procedures ≡ true → EntryIsOther t
 entry_of t count f e =
     let x = entry_found (known t count) 0 t.procedures e in
     let turn = x.turn in

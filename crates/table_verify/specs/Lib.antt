@@ -18,3 +18,4 @@ pub mod Starting
 pub mod Things
 pub mod NumberFaults
 pub mod Numbering
+pub mod FirstFaults

@@ -9,7 +9,7 @@ use Rattle.sip_tables.specs.declared.instruction.Operation.TheVariants as op
 use Rattle.sip_tables.specs.Lists.{Lists}
 use Rattle.table_verify.specs.Passing.{passes_lists, passes_names, passes_procedure}
 use Rattle.table_verify.specs.Reading.{heads}
-use Rattle.table_verify.specs.Rest.{Left, Read, ◌>>=◌}
+use Rattle.table_verify.specs.Rest.{◌>>=◌}
 use Rattle.table_verify.specs.Things.{is_right, prints_in, begun_in}
 
 -- whether a program's name and what it declares is proper

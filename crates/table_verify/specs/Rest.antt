@@ -1,8 +1,8 @@
 -- What is left of code and texts while they are read from the front.
 use Rattle.std.specs.Prelude.{◌≡◌, ℕ, ◌+◌, List, [], ◌∷◌, ◌==◌, if◌then◌else◌, Option, Some, None, Result, Ok, Err, drop}
 use Rattle.sip_tables.specs.declared.instruction.Instruction.{Instruction}
-use Rattle.table_verify.specs.declared.fault.VerifyFault.{VerifyFault}
-use Rattle.table_verify.specs.declared.fault.VerifyFault.TheVariants.{NotAProgram, OutOfMemory}
+use Rattle.table_verify.specs.declared.read_fault.ReadFault.{ReadFault}
+use Rattle.table_verify.specs.declared.read_fault.ReadFault.TheVariants.{NotAProgram, OutOfMemory}
 use Rattle.table_verify.specs.declared.rest.Rest.{Rest}
 
 -- instructions and texts, with the numbers of the first of each
@@ -27,12 +27,12 @@ abbrev pub ◌>>=◌ : {A B : Type 0} → Option A → (A → Option B) → Opti
 None >>= f = None
 
 -- a fault tells of want of memory, or that nothing is read
-abbrev pub Fails : {Y : Type 0} → VerifyFault → Option Y → Type 0
+abbrev pub Fails : {Y : Type 0} → ReadFault → Option Y → Type 0
 Fails NotAProgram read = read ≡ None
 Fails OutOfMemory read = Unit {0}
 
 -- an answer, seen so, is what a reading gives, unless memory ran out
-abbrev pub Gives : {X Y : Type 0} → (X → Y) → Result X VerifyFault → Option Y → Type 0
+abbrev pub Gives : {X Y : Type 0} → (X → Y) → Result X ReadFault → Option Y → Type 0
 Gives view (Ok x) read = read ≡ Some (view x)
 Gives view (Err fault) read = Fails fault read
 

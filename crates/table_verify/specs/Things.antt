@@ -1,7 +1,7 @@
 -- The numbers of things and texts that tables name.
-use Rattle.std.specs.Prelude.{ℕ, ◌+◌, ◌-◌, List, [], ◌∷◌, Bool, true, false, ◌&&◌, ◌==◌, if◌then◌else◌, nat_le, length, Option, Some, None, slice_get}
+use Rattle.std.specs.Prelude.{ℕ, ◌+◌, List, [], ◌∷◌, Bool, true, false, ◌&&◌, ◌==◌, if◌then◌else◌, Option, Some, None, slice_get}
 use Rattle.std.specs.List.{list_all}
-use Rattle.sial_syntax.specs.Limits.{most_pardo, most_rank, most_statements}
+use Rattle.sial_syntax.specs.Limits.{most_pardo, most_rank}
 use Rattle.sial_syntax.specs.Names.{is_text}
 use Rattle.sial_syntax.specs.Proper.{has_index, has_array, has_scalar, has_procedure, has_length, proper_block, proper_cond, proper_right, proper_slot, proper_target, is_write}
 use Rattle.sial_syntax.specs.Tree.{Tree}

@@ -4,7 +4,7 @@ ghost use Rattle.std.specs.Prelude.{◌≡◌, [], option_map};
 ghost use Rattle.table_verify.specs.Closings as spec;
 ghost use Rattle.table_verify.specs.Rest.{Gives, seen};
 
-use crate::fault::VerifyFault;
+use crate::read_fault::ReadFault;
 use crate::rest::{Rest, next};
 use sial_syntax::Cond;
 use sip_tables::Operation;
@@ -58,76 +58,76 @@ fn ends_pardo(head: usize, operation: &Operation) -> bool
 
 /// The end of a loop that begins at `head` on this line; what is left behind it.
 #[tactic(auto, unfolding(crate::specs::Closings::end_do))]
-pub fn end_do(line: u32, head: usize, rest: Rest<'_>) -> Result<Rest<'_>, VerifyFault>
+pub fn end_do(line: u32, head: usize, rest: Rest<'_>) -> Result<Rest<'_>, ReadFault>
     ensures { Gives seen result (spec.end_do line head (seen rest.entry)) }
 {
     let Some((last, rest)) = next(rest) else {
-        return Err(VerifyFault::NotAProgram);
+        return Err(ReadFault::NotAProgram);
     };
     if last.line == line && ends_do(head, &last.operation) {
         Ok(rest)
     } else {
-        Err(VerifyFault::NotAProgram)
+        Err(ReadFault::NotAProgram)
     }
 }
 
 /// The end of a pardo that begins at `head` on this line; what is left behind it.
 #[tactic(auto, unfolding(crate::specs::Closings::end_pardo))]
-pub fn end_pardo(line: u32, head: usize, rest: Rest<'_>) -> Result<Rest<'_>, VerifyFault>
+pub fn end_pardo(line: u32, head: usize, rest: Rest<'_>) -> Result<Rest<'_>, ReadFault>
     ensures { Gives seen result (spec.end_pardo line head (seen rest.entry)) }
 {
     let Some((last, rest)) = next(rest) else {
-        return Err(VerifyFault::NotAProgram);
+        return Err(ReadFault::NotAProgram);
     };
     if last.line == line && ends_pardo(head, &last.operation) {
         Ok(rest)
     } else {
-        Err(VerifyFault::NotAProgram)
+        Err(ReadFault::NotAProgram)
     }
 }
 
 /// The end of an `if` on this line; what is left behind it.
 #[tactic(auto, unfolding(crate::specs::Closings::end_if))]
-pub fn end_if(line: u32, rest: Rest<'_>) -> Result<Rest<'_>, VerifyFault>
+pub fn end_if(line: u32, rest: Rest<'_>) -> Result<Rest<'_>, ReadFault>
     ensures { Gives seen result (spec.end_if line (seen rest.entry)) }
 {
     let Some((last, rest)) = next(rest) else {
-        return Err(VerifyFault::NotAProgram);
+        return Err(ReadFault::NotAProgram);
     };
     if last.line == line && matches!(last.operation, Operation::EndIf) {
         Ok(rest)
     } else {
-        Err(VerifyFault::NotAProgram)
+        Err(ReadFault::NotAProgram)
     }
 }
 
 /// The end of the program; what is left behind it.
 #[tactic(auto, unfolding(crate::specs::Closings::stop))]
-pub fn stop(rest: Rest<'_>) -> Result<Rest<'_>, VerifyFault>
+pub fn stop(rest: Rest<'_>) -> Result<Rest<'_>, ReadFault>
     ensures { Gives seen result (spec.stop (seen rest.entry)) }
 {
     let Some((last, rest)) = next(rest) else {
-        return Err(VerifyFault::NotAProgram);
+        return Err(ReadFault::NotAProgram);
     };
     if last.line == 0 && matches!(last.operation, Operation::Stop) {
         Ok(rest)
     } else {
-        Err(VerifyFault::NotAProgram)
+        Err(ReadFault::NotAProgram)
     }
 }
 
 /// The end of a procedure; what is left behind it.
 #[tactic(auto, unfolding(crate::specs::Closings::return_from))]
-pub fn return_from(rest: Rest<'_>) -> Result<Rest<'_>, VerifyFault>
+pub fn return_from(rest: Rest<'_>) -> Result<Rest<'_>, ReadFault>
     ensures { Gives seen result (spec.return_from (seen rest.entry)) }
 {
     let Some((last, rest)) = next(rest) else {
-        return Err(VerifyFault::NotAProgram);
+        return Err(ReadFault::NotAProgram);
     };
     if last.line == 0 && matches!(last.operation, Operation::Return) {
         Ok(rest)
     } else {
-        Err(VerifyFault::NotAProgram)
+        Err(ReadFault::NotAProgram)
     }
 }
 
@@ -151,7 +151,7 @@ pub fn wheres<'a>(
     most: usize,
     line: u32,
     start: Rest<'a>,
-) -> Result<(Vec<Cond>, Rest<'a>), VerifyFault>
+) -> Result<(Vec<Cond>, Rest<'a>), ReadFault>
     ensures { Gives (λ x. (x.0.items, seen x.1)) result (spec.wheres line most [] (seen start.entry)) }
 {
     let mut wheres = Vec::new(alloc);

@@ -5,14 +5,14 @@ ghost use Rattle.sial_syntax.specs.Tree.{procedure as spec_procedure};
 ghost use Rattle.table_verify.specs.Names as spec;
 ghost use Rattle.table_verify.specs.Rest.{Gives, numbered as spec_numbered, seen};
 
-use crate::fault::VerifyFault;
+use crate::read_fault::ReadFault;
 use crate::rest::{Rest, numbered};
 use sial_syntax::{ArrayDecl, Bound, IndexDecl, Kind, Proc, Range, Text, Tuple};
 use sip_tables::{ArrayEntry, BoundEntry, IndexEntry, ProcedureEntry, RangeEntry};
 use std::alloc::Global;
 
 // The name of a number, if it is the next text.
-fn name<'a>(alloc: Global, number: u64, rest: Rest<'a>) -> Result<(Text, Rest<'a>), VerifyFault>
+fn name<'a>(alloc: Global, number: u64, rest: Rest<'a>) -> Result<(Text, Rest<'a>), ReadFault>
     ensures { Gives (λ x. (x.0, seen x.1)) result (spec_numbered number (seen rest.entry)) }
 {
     let (text, rest) = numbered(number, rest)?;
@@ -25,7 +25,7 @@ fn bound<'a>(
     alloc: Global,
     entry: BoundEntry,
     rest: Rest<'a>,
-) -> Result<(Bound, Rest<'a>), VerifyFault>
+) -> Result<(Bound, Rest<'a>), ReadFault>
     ensures { Gives (λ x. (x.0, seen x.1)) result (spec.bound_of entry (seen rest.entry)) }
 {
     match entry {
@@ -45,7 +45,7 @@ fn segments<'a>(
     lo: BoundEntry,
     hi: BoundEntry,
     rest: Rest<'a>,
-) -> Result<(Range, Rest<'a>), VerifyFault>
+) -> Result<(Range, Rest<'a>), ReadFault>
     ensures { Gives (λ x. (x.0, seen x.1)) result (spec.segments kind lo hi (seen rest.entry)) }
 {
     let (lo, rest) = bound(alloc, lo, rest)?;
@@ -58,7 +58,7 @@ fn range<'a>(
     alloc: Global,
     entry: RangeEntry,
     rest: Rest<'a>,
-) -> Result<(Range, Rest<'a>), VerifyFault>
+) -> Result<(Range, Rest<'a>), ReadFault>
     ensures { Gives (λ x. (x.0, seen x.1)) result (spec.range_of entry (seen rest.entry)) }
 {
     match entry {
@@ -69,7 +69,7 @@ fn range<'a>(
             },
             rest,
         )),
-        RangeEntry::Sub { .. } => Err(VerifyFault::NotAProgram),
+        RangeEntry::Sub { .. } => Err(ReadFault::NotAProgram),
     }
 }
 
@@ -79,7 +79,7 @@ fn index<'a>(
     alloc: Global,
     entry: &IndexEntry,
     rest: Rest<'a>,
-) -> Result<(IndexDecl, Rest<'a>), VerifyFault>
+) -> Result<(IndexDecl, Rest<'a>), ReadFault>
     ensures { Gives (λ x. (x.0, seen x.1)) result (spec.index entry.now (seen rest.entry)) }
 {
     let (name, rest) = name(alloc, u64::from(entry.text), rest)?;
@@ -100,7 +100,7 @@ fn array<'a>(
     alloc: Global,
     entry: &ArrayEntry,
     rest: Rest<'a>,
-) -> Result<(ArrayDecl, Rest<'a>), VerifyFault>
+) -> Result<(ArrayDecl, Rest<'a>), ReadFault>
     ensures { Gives (λ x. (x.0, seen x.1)) result (spec.array entry.now (seen rest.entry)) }
 {
     let (name, rest) = name(alloc, u64::from(entry.text), rest)?;
@@ -117,7 +117,7 @@ fn array<'a>(
 }
 
 // A scalar's name.
-fn scalar<'a>(alloc: Global, entry: &u32, rest: Rest<'a>) -> Result<(Text, Rest<'a>), VerifyFault>
+fn scalar<'a>(alloc: Global, entry: &u32, rest: Rest<'a>) -> Result<(Text, Rest<'a>), ReadFault>
     ensures { Gives (λ x. (x.0, seen x.1)) result (spec_numbered entry.now (seen rest.entry)) }
 {
     name(alloc, u64::from(*entry), rest)
@@ -129,7 +129,7 @@ fn named<'a>(
     alloc: Global,
     entry: &ProcedureEntry,
     rest: Rest<'a>,
-) -> Result<(Proc, Rest<'a>), VerifyFault>
+) -> Result<(Proc, Rest<'a>), ReadFault>
     ensures { Gives (λ x. (spec_procedure x.0, seen x.1)) result (spec.named entry.now (seen rest.entry)) }
 {
     let (name, rest) = name(alloc, u64::from(entry.text), rest)?;
@@ -147,7 +147,7 @@ pub fn indices<'a>(
     alloc: Global,
     entries: &[IndexEntry],
     start: Rest<'a>,
-) -> Result<(Vec<IndexDecl>, Rest<'a>), VerifyFault>
+) -> Result<(Vec<IndexDecl>, Rest<'a>), ReadFault>
     ensures { Gives (λ x. (x.0.items, seen x.1)) result (spec.each spec.index [] entries.now (seen start.entry)) }
 {
     let mut indices = Vec::new(alloc);
@@ -165,7 +165,7 @@ pub fn arrays<'a>(
     alloc: Global,
     entries: &[ArrayEntry],
     start: Rest<'a>,
-) -> Result<(Vec<ArrayDecl>, Rest<'a>), VerifyFault>
+) -> Result<(Vec<ArrayDecl>, Rest<'a>), ReadFault>
     ensures { Gives (λ x. (x.0.items, seen x.1)) result (spec.each spec.array [] entries.now (seen start.entry)) }
 {
     let mut arrays = Vec::new(alloc);
@@ -183,7 +183,7 @@ pub fn scalars<'a>(
     alloc: Global,
     entries: &[u32],
     start: Rest<'a>,
-) -> Result<(Vec<Text>, Rest<'a>), VerifyFault>
+) -> Result<(Vec<Text>, Rest<'a>), ReadFault>
     ensures { Gives (λ x. (x.0.items, seen x.1)) result (spec.each spec_numbered [] entries.now (seen start.entry)) }
 {
     let mut scalars = Vec::new(alloc);
@@ -201,7 +201,7 @@ pub fn procedures<'a>(
     alloc: Global,
     entries: &[ProcedureEntry],
     start: Rest<'a>,
-) -> Result<(Vec<Proc>, Rest<'a>), VerifyFault>
+) -> Result<(Vec<Proc>, Rest<'a>), ReadFault>
     ensures { Gives (λ x. (map spec_procedure x.0.items, seen x.1)) result (spec.each spec.named [] entries.now (seen start.entry)) }
 {
     let mut procedures = Vec::new(alloc);

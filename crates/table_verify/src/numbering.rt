@@ -8,9 +8,9 @@ ghost use Rattle.table_verify.specs.Numbering as spec;
 ghost use Rattle.table_verify.specs.Things as things;
 
 use crate::closings::begins;
-use crate::fault::VerifyFault;
 use crate::jumping::front_len;
 use crate::passing::passes_heads;
+use crate::read_fault::ReadFault;
 use crate::things::{is_right, prints};
 use crate::verifier::heads;
 use sial_syntax::{Program, Text};
@@ -44,8 +44,8 @@ fn declared(alloc: Global, tables: &Tables) -> Result<Option<(Program, usize)>, 
                 Ok(None)
             }
         }
-        Err(VerifyFault::NotAProgram) => Ok(None),
-        Err(VerifyFault::OutOfMemory) => Err(OutOfMemory),
+        Err(ReadFault::NotAProgram) => Ok(None),
+        Err(ReadFault::OutOfMemory) => Err(OutOfMemory),
     }
 }
 

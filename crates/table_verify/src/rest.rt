@@ -4,7 +4,7 @@ ghost use Rattle.std.specs.Prelude.{◌≡◌, option_map};
 ghost use Rattle.table_verify.specs.Rest as spec;
 ghost use Rattle.table_verify.specs.Rest.{Gives, seen};
 
-use crate::fault::VerifyFault;
+use crate::read_fault::ReadFault;
 use sial_syntax::Text;
 use sip_tables::Instruction;
 
@@ -27,7 +27,7 @@ pub fn next(rest: Rest<'_>) -> Option<(&Instruction, Rest<'_>)>
     Some((instruction, behind))
 }
 
-//// The next text, and what is left behind it.
+/// The next text, and what is left behind it.
 pub fn text(rest: Rest<'_>) -> Option<(&Text, Rest<'_>)>
     ensures { option_map (λ x. (x.0.now, seen x.1)) result ≡ spec.text (seen rest.entry) }
 {
@@ -39,15 +39,15 @@ pub fn text(rest: Rest<'_>) -> Option<(&Text, Rest<'_>)>
 
 /// The text of a number, if it is the next one.
 #[tactic(auto, unfolding(crate::specs::Rest::numbered))]
-pub fn numbered(number: u64, rest: Rest<'_>) -> Result<(&Text, Rest<'_>), VerifyFault>
+pub fn numbered(number: u64, rest: Rest<'_>) -> Result<(&Text, Rest<'_>), ReadFault>
     ensures { Gives (λ x. (x.0.now, seen x.1)) result (spec.numbered number (seen rest.entry)) }
 {
     if number == rest.text as u64 {
         let Some(found) = text(rest) else {
-            return Err(VerifyFault::NotAProgram);
+            return Err(ReadFault::NotAProgram);
         };
         Ok(found)
     } else {
-        Err(VerifyFault::NotAProgram)
+        Err(ReadFault::NotAProgram)
     }
 }

@@ -6,14 +6,14 @@ ghost use Rattle.table_verify.specs.Rest.{Gives, seen};
 ghost use Rattle.table_verify.specs.Statements as spec;
 
 use crate::copies;
-use crate::fault::VerifyFault;
+use crate::read_fault::ReadFault;
 use crate::rest::{Rest, numbered};
 use sial_syntax::{Cond, Form, Stmt, Text};
 use sip_tables::Operation;
 use std::alloc::Global;
 
 /// A statement that is one instruction with no number in it.
-pub fn simple(alloc: Global, operation: &Operation) -> Result<Form, VerifyFault>
+pub fn simple(alloc: Global, operation: &Operation) -> Result<Form, ReadFault>
     ensures { Gives plain_form result (spec.simple operation.now) }
 {
     match operation {
@@ -58,13 +58,13 @@ pub fn simple(alloc: Global, operation: &Operation) -> Result<Form, VerifyFault>
         Operation::Integrals { block } => Ok(Form::Integrals {
             block: copies::block(alloc, block)?,
         }),
-        _ => Err(VerifyFault::NotAProgram),
+        _ => Err(ReadFault::NotAProgram),
     }
 }
 
 /// A printed text, if it has this number.
 #[tactic(auto, unfolding(crate::specs::Statements::print))]
-pub fn print(alloc: Global, number: u32, rest: Rest<'_>) -> Result<(Form, Rest<'_>), VerifyFault>
+pub fn print(alloc: Global, number: u32, rest: Rest<'_>) -> Result<(Form, Rest<'_>), ReadFault>
     ensures { Gives (λ x. (plain_form x.0, seen x.1)) result (spec.print number (seen rest.entry)) }
 {
     let (text, rest) = numbered(u64::from(number), rest)?;
@@ -79,13 +79,13 @@ pub fn call<'a>(
     procedure: u16,
     entry: u32,
     rest: Rest<'a>,
-) -> Result<(Form, Rest<'a>), VerifyFault>
+) -> Result<(Form, Rest<'a>), ReadFault>
     ensures { Gives (λ x. (plain_form x.0, seen x.1)) result (spec.call entries.now procedure entry (seen rest.entry)) }
 {
     if entry == entries.get(procedure as usize).copied().unwrap_or(0) {
         Ok((Form::Call { proc: procedure }, rest))
     } else {
-        Err(VerifyFault::NotAProgram)
+        Err(ReadFault::NotAProgram)
     }
 }
 

@@ -6,7 +6,7 @@ ghost use Rattle.table_verify.specs.Rest.{Gives, seen};
 ghost use Rattle.table_verify.specs.Statements as spec;
 
 use crate::closings::{begin, end_do, end_if, end_pardo, wheres};
-use crate::fault::VerifyFault;
+use crate::read_fault::ReadFault;
 use crate::rest::{Rest, next};
 use crate::simple::{branches, call, print, simple};
 use sial_syntax::{Cond, Form, Stmt};
@@ -29,7 +29,7 @@ pub fn body<'a>(
     whole: Whole<'_>,
     depth: u32,
     start: Rest<'a>,
-) -> Result<(Vec<Stmt>, Rest<'a>), VerifyFault>
+) -> Result<(Vec<Stmt>, Rest<'a>), ReadFault>
     ensures { Gives (λ x. (block x.0.items, seen x.1)) result (spec.body whole.entry.entries.now whole.entry.len depth (seen start.entry)) }
 {
     let mut stmts = Vec::new(alloc);
@@ -52,11 +52,11 @@ fn inner<'a>(
     whole: Whole<'_>,
     depth: u32,
     rest: Rest<'a>,
-) -> Result<(Vec<Stmt>, Rest<'a>), VerifyFault>
+) -> Result<(Vec<Stmt>, Rest<'a>), ReadFault>
     ensures { Gives (λ x. (block x.0.items, seen x.1)) result (spec.within whole.entry depth (seen rest.entry)) }
 {
     if depth == 0 {
-        return Err(VerifyFault::NotAProgram);
+        return Err(ReadFault::NotAProgram);
     }
     body(alloc, whole, depth - 1, rest)
 }
@@ -69,11 +69,11 @@ fn statement<'a>(
     whole: Whole<'_>,
     depth: u32,
     rest: Rest<'a>,
-) -> Result<(Stmt, Rest<'a>), VerifyFault>
+) -> Result<(Stmt, Rest<'a>), ReadFault>
     ensures { Gives (λ x. (plain_stmt x.0, seen x.1)) result (spec.statement whole.entry.entries.now whole.entry.len (spec.within whole.entry depth) (seen rest.entry)) }
 {
     let Some((first, behind)) = next(rest) else {
-        return Err(VerifyFault::NotAProgram);
+        return Err(ReadFault::NotAProgram);
     };
     let place = (rest.at, first.line);
     let (form, behind) = form(alloc, whole, depth, place, &first.operation, behind)?;
@@ -95,7 +95,7 @@ fn form<'a>(
     place: (usize, u32),
     operation: &Operation,
     rest: Rest<'a>,
-) -> Result<(Form, Rest<'a>), VerifyFault>
+) -> Result<(Form, Rest<'a>), ReadFault>
     ensures { Gives (λ x. (plain_form x.0, seen x.1)) result (spec.form whole.entry.entries.now whole.entry.len (spec.within whole.entry depth) place.0 place.1 operation.now (seen rest.entry)) }
 {
     match operation {
@@ -134,7 +134,7 @@ fn over_segments<'a>(
     index: u16,
     past: u32,
     rest: Rest<'a>,
-) -> Result<(Form, Rest<'a>), VerifyFault>
+) -> Result<(Form, Rest<'a>), ReadFault>
     ensures { Gives (λ x. (plain_form x.0, seen x.1)) result (spec.over_segments (spec.within whole.entry depth) place.0 place.1 index past (seen rest.entry)) }
 {
     let (body, rest) = inner(alloc, whole, depth, rest)?;
@@ -142,7 +142,7 @@ fn over_segments<'a>(
     if past as usize == rest.at {
         Ok((Form::Do { index, body }, rest))
     } else {
-        Err(VerifyFault::NotAProgram)
+        Err(ReadFault::NotAProgram)
     }
 }
 
@@ -157,7 +157,7 @@ fn over_pieces<'a>(
     indices: (u16, u16),
     past: u32,
     rest: Rest<'a>,
-) -> Result<(Form, Rest<'a>), VerifyFault>
+) -> Result<(Form, Rest<'a>), ReadFault>
     ensures { Gives (λ x. (plain_form x.0, seen x.1)) result (spec.over_pieces (spec.within whole.entry depth) place.0 place.1 indices.0 indices.1 past (seen rest.entry)) }
 {
     let (sub, index) = indices;
@@ -166,7 +166,7 @@ fn over_pieces<'a>(
     if past as usize == rest.at {
         Ok((Form::DoIn { sub, index, body }, rest))
     } else {
-        Err(VerifyFault::NotAProgram)
+        Err(ReadFault::NotAProgram)
     }
 }
 
@@ -181,7 +181,7 @@ fn pardo<'a>(
     indices: &[u16],
     end: u32,
     rest: Rest<'a>,
-) -> Result<(Form, Rest<'a>), VerifyFault>
+) -> Result<(Form, Rest<'a>), ReadFault>
     ensures { Gives (λ x. (plain_form x.0, seen x.1)) result (spec.pardo (spec.within whole.entry depth) whole.entry.len place.0 place.1 indices.now end (seen rest.entry)) }
 {
     let (wheres, rest) = wheres(alloc, whole.len, place.1, rest)?;
@@ -198,7 +198,7 @@ fn pardo<'a>(
             rest,
         ))
     } else {
-        Err(VerifyFault::NotAProgram)
+        Err(ReadFault::NotAProgram)
     }
 }
 
@@ -213,12 +213,12 @@ fn branch<'a>(
     cond: Cond,
     otherwise: u32,
     rest: Rest<'a>,
-) -> Result<(Form, Rest<'a>), VerifyFault>
+) -> Result<(Form, Rest<'a>), ReadFault>
     ensures { Gives (λ x. (plain_form x.0, seen x.1)) result (spec.branch (spec.within whole.entry depth) line cond otherwise (seen rest.entry)) }
 {
     let (first, rest) = inner(alloc, whole, depth, rest)?;
     let Some((last, rest)) = next(rest) else {
-        return Err(VerifyFault::NotAProgram);
+        return Err(ReadFault::NotAProgram);
     };
     if last.line == line && otherwise as usize == rest.at {
         after_branch(
@@ -232,7 +232,7 @@ fn branch<'a>(
             rest,
         )
     } else {
-        Err(VerifyFault::NotAProgram)
+        Err(ReadFault::NotAProgram)
     }
 }
 
@@ -247,7 +247,7 @@ fn after_branch<'a>(
     first: Vec<Stmt>,
     last: &Operation,
     rest: Rest<'a>,
-) -> Result<(Form, Rest<'a>), VerifyFault>
+) -> Result<(Form, Rest<'a>), ReadFault>
     ensures { Gives (λ x. (plain_form x.0, seen x.1)) result (spec.after_branch (spec.within whole.entry depth) line cond (block first.items) last.now (seen rest.entry)) }
 {
     match last {
@@ -260,7 +260,7 @@ fn after_branch<'a>(
             rest,
         )),
         Operation::Else { past } => second(alloc, whole, depth, line, cond, first, *past, rest),
-        _ => Err(VerifyFault::NotAProgram),
+        _ => Err(ReadFault::NotAProgram),
     }
 }
 
@@ -276,7 +276,7 @@ fn second<'a>(
     first: Vec<Stmt>,
     past: u32,
     rest: Rest<'a>,
-) -> Result<(Form, Rest<'a>), VerifyFault>
+) -> Result<(Form, Rest<'a>), ReadFault>
     ensures { Gives (λ x. (plain_form x.0, seen x.1)) result (spec.second (spec.within whole.entry depth) line cond (block first.items) past (seen rest.entry)) }
 {
     let (other, rest) = inner(alloc, whole, depth, rest)?;
@@ -284,6 +284,6 @@ fn second<'a>(
     if past as usize == rest.at {
         Ok((branches(cond, first, other), rest))
     } else {
-        Err(VerifyFault::NotAProgram)
+        Err(ReadFault::NotAProgram)
     }
 }

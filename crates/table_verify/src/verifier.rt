@@ -1,11 +1,12 @@
 //! Whole programs.
 
-ghost use Rattle.std.specs.Prelude.{◌≡◌, [], IfOk, IsTrue, map};
+ghost use Rattle.std.specs.Prelude.{◌≡◌, [], IfErr, IfOk, IsTrue, map};
 ghost use Rattle.std.specs.List.{enumerate_from};
 ghost use Rattle.sial_syntax.specs.Proper.{IsProper};
 ghost use Rattle.sial_syntax.specs.Tree.{Tree, procedure as spec_procedure, tree};
 ghost use Rattle.sip_tables.specs.Flatten.{flatten};
 ghost use Rattle.table_verify.specs.Answers.{Answers};
+ghost use Rattle.table_verify.specs.FirstFaults.{Tells};
 ghost use Rattle.table_verify.specs.Names.{each};
 ghost use Rattle.table_verify.specs.Passing.{all_numbers, verified};
 ghost use Rattle.table_verify.specs.Reading as spec;
@@ -14,7 +15,9 @@ ghost use Rattle.table_verify.specs.Rest.{Gives, seen};
 use crate::closings::{return_from, stop};
 use crate::declared::{arrays, indices, procedures, scalars};
 use crate::fault::VerifyFault;
+use crate::first::refusal;
 use crate::passing::passes;
+use crate::read_fault::ReadFault;
 use crate::rest::{Rest, next, text};
 use crate::statements::{Whole, body};
 use sial_syntax::{Proc, Program, Text};
@@ -23,8 +26,8 @@ use std::alloc::{AllocError, Global};
 
 const MOST_NESTING: u32 = 32;
 
-/// The program whose tables these are, in time linear in them.
-#[tactic(auto, using(crate::proofs::Passed::found_from, crate::proofs::Passed::proper_from, crate::proofs::Passed::only_from))]
+/// The program whose tables these are, in time linear in them; where they are those of no proper program, their first fault.
+#[tactic(auto, using(crate::proofs::Passed::ok_found, crate::proofs::Passed::ok_proper, crate::proofs::Passed::ok_only, crate::proofs::Passed::err_only))]
 pub fn unflatten(alloc: Global, tables: &Tables) -> Result<Program, VerifyFault>
     // What is given is a proper program, and these are its tables.
     ensures found { IfOk result (λ p. flatten (tree p) ≡ tables.now) }
@@ -32,13 +35,20 @@ pub fn unflatten(alloc: Global, tables: &Tables) -> Result<Program, VerifyFault>
 
     // A proper program that has these tables is given, unless memory runs out.
     ensures only { (p : Tree) → IsProper p → flatten p ≡ tables.now → Answers p result }
+
+    // What is told otherwise is the first fault of the tables.
+    ensures first { IfErr result (λ told. Tells tables.now told) }
 {
-    verify(alloc, tables)
+    match verify(alloc, tables) {
+        Ok(program) => Ok(program),
+        Err(ReadFault::NotAProgram) => Err(refusal(alloc, tables)),
+        Err(ReadFault::OutOfMemory) => Err(VerifyFault::OutOfMemory),
+    }
 }
 
 // A program that was read, if it passes.
 #[tactic(auto, unfolding(crate::specs::Passing::verified))]
-fn verify(alloc: Global, tables: &Tables) -> Result<Program, VerifyFault>
+fn verify(alloc: Global, tables: &Tables) -> Result<Program, ReadFault>
     ensures exact { Gives tree result (verified tables.now) }
     ensures numbers { IfOk result (λ p. IsTrue (all_numbers (tree p))) }
 {
@@ -46,13 +56,13 @@ fn verify(alloc: Global, tables: &Tables) -> Result<Program, VerifyFault>
     if passes(&program)? {
         Ok(program)
     } else {
-        Err(VerifyFault::NotAProgram)
+        Err(ReadFault::NotAProgram)
     }
 }
 
 // A program with the code and the texts of these tables, if there is one.
 #[tactic(auto, unfolding(crate::specs::Reading::read))]
-fn read(alloc: Global, tables: &Tables) -> Result<Program, VerifyFault>
+fn read(alloc: Global, tables: &Tables) -> Result<Program, ReadFault>
     ensures { Gives tree result (spec.read tables.now) }
 {
     let entries = entries(alloc, tables.procedures())?;
@@ -65,7 +75,7 @@ fn read(alloc: Global, tables: &Tables) -> Result<Program, VerifyFault>
     if code_is_over(rest) && texts_are_over(rest) {
         Ok(program)
     } else {
-        Err(VerifyFault::NotAProgram)
+        Err(ReadFault::NotAProgram)
     }
 }
 
@@ -82,7 +92,7 @@ fn entries(alloc: Global, procedures: &[ProcedureEntry]) -> Result<Vec<u32>, All
 
 /// The program's name and what it declares, with no statement yet.
 #[tactic(auto, unfolding(crate::specs::Reading::heads))]
-pub fn heads(alloc: Global, tables: &Tables) -> Result<(Program, Rest<'_>), VerifyFault>
+pub fn heads(alloc: Global, tables: &Tables) -> Result<(Program, Rest<'_>), ReadFault>
     ensures { Gives (λ x. (tree x.0, seen x.1)) result (spec.heads tables.now) }
 {
     let start = Rest {
@@ -92,7 +102,7 @@ pub fn heads(alloc: Global, tables: &Tables) -> Result<(Program, Rest<'_>), Veri
         text: 0,
     };
     let Some((name, rest)) = text(start) else {
-        return Err(VerifyFault::NotAProgram);
+        return Err(ReadFault::NotAProgram);
     };
     let name = Text::from_slice(alloc, name.as_slice())?;
     let (indices, rest) = indices(alloc, tables.indices(), rest)?;
@@ -119,7 +129,7 @@ fn bodies<'a>(
     whole: Whole<'_>,
     heads: Program,
     rest: Rest<'a>,
-) -> Result<(Program, Rest<'a>), VerifyFault>
+) -> Result<(Program, Rest<'a>), ReadFault>
     ensures { Gives (λ x. (tree x.0, seen x.1)) result (spec.bodies whole.entry.entries.now whole.entry.len (tree heads) (seen rest.entry)) }
 {
     let (body, rest) = body(alloc, whole, MOST_NESTING, rest)?;
@@ -137,7 +147,7 @@ fn filled<'a>(
     whole: Whole<'_>,
     named: &[Proc],
     start: Rest<'a>,
-) -> Result<(Vec<Proc>, Rest<'a>), VerifyFault>
+) -> Result<(Vec<Proc>, Rest<'a>), ReadFault>
     ensures { Gives (λ x. (map spec_procedure x.0.items, seen x.1)) result
         (each (spec.filled whole.entry.entries.now whole.entry.len) [] (enumerate_from 0 (map spec_procedure named.now)) (seen start.entry)) }
 {
@@ -158,7 +168,7 @@ fn procedure<'a>(
     number: usize,
     named: &Proc,
     rest: Rest<'a>,
-) -> Result<(Proc, Rest<'a>), VerifyFault>
+) -> Result<(Proc, Rest<'a>), ReadFault>
     ensures { Gives (λ x. (spec_procedure x.0, seen x.1)) result
         (spec.filled whole.entry.entries.now whole.entry.len (number, spec_procedure named.now) (seen rest.entry)) }
 {
@@ -166,7 +176,7 @@ fn procedure<'a>(
     if entry as usize == rest.at {
         procedure_of(alloc, whole, &named.name, rest)
     } else {
-        Err(VerifyFault::NotAProgram)
+        Err(ReadFault::NotAProgram)
     }
 }
 
@@ -177,7 +187,7 @@ fn procedure_of<'a>(
     whole: Whole<'_>,
     name: &Text,
     rest: Rest<'a>,
-) -> Result<(Proc, Rest<'a>), VerifyFault>
+) -> Result<(Proc, Rest<'a>), ReadFault>
     ensures { Gives (λ x. (spec_procedure x.0, seen x.1)) result (spec.procedure_of whole.entry.entries.now whole.entry.len name.now (seen rest.entry)) }
 {
     let (body, rest) = body(alloc, whole, MOST_NESTING, rest)?;

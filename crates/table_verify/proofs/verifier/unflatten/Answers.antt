@@ -1,5 +1,5 @@
-use Rattle.table_verify.proofs.Passed.{found_from}
+use Rattle.table_verify.proofs.Passed.{ok_proper}
 use Rattle.table_verify.proofs.verifier.unflatten.Goals as goal
 
-pub returns-clause-found : goal.returns-clause-found
-returns-clause-found c = found_from c.args.tables.now c.verify.result c.verify.ensures.exact
+pub returns-in-Ok-clause-proper : goal.returns-in-Ok-clause-proper
+returns-in-Ok-clause-proper c = ok_proper c.args.tables.now c.in-Ok.program c.in-Ok.ensures.exact c.in-Ok.ensures.numbers
