@@ -1,15 +1,14 @@
 -- How many slots are free, by how many places have a block.
-use Rattle.std.proofs.Common.{◌≡◌, ◌≢◌, ℕ, zero, suc, ◌+◌, ◌<◌, ◌≤◌, List, [], ◌∷◌, length, true, Bool, inl, inr, refl, sym, ap, ◌∙◌, subst, arith, Option, Some, None}
+use Rattle.std.proofs.Common.{◌≡◌, ◌≢◌, ℕ, zero, suc, ◌+◌, ◌<◌, ◌≤◌, List, [], ◌∷◌, length, true, false, Bool, inl, inr, refl, sym, ap, ◌∙◌, arith, Option, Some, None}
 use Rattle.std.specs.Prelude.{is_some, is_none}
 use Rattle.std.specs.Option.{option_map}
 use Rattle.std.proofs.lemmas.Bool.{cases_eq}
-use Rattle.block_pool.specs.Memory.{Memory, free_in, last_class, names, one_if, words_at}
-use Rattle.block_pool.specs.Changes.{IsMemory}
+use Rattle.block_pool.specs.Memory.{Memory, free_in, last_class, names, one_if}
 use Rattle.block_pool.specs.Standing.{Named, lease_at, named_count}
 use Rattle.block_seats.specs.Counted.{held_count, empty_count}
 use Rattle.block_seats.specs.Leaving.{Leaves}
 use Rattle.block_seats.specs.Putting.{Puts}
-use Rattle.block_seats.specs.Seated.{Seated, SeatsStand, block_at, empty}
+use Rattle.block_seats.specs.Seated.{Seated, SeatsStand, block_at}
 
 -- the leases behind the first
 named-rest : (p : Memory) (class : ℕ) (x : Option ℕ) (xs : List (Option ℕ)) → Named p class (x ∷ xs) → Named p class xs
@@ -56,7 +55,7 @@ held-one (x ∷ xs) (y ∷ ys) (suc i) within long same =
     omega (arith, first, rest)
 
 -- a block is where a slot is
-block-held : (p : Memory) (s : Seated) (place : ℕ) → is_some (block_at p s place) ≡ is_some (lease_at s.slots place)
+pub block-held : (p : Memory) (s : Seated) (place : ℕ) → is_some (block_at p s place) ≡ is_some (lease_at s.slots place)
 block-held p s place = by _ (lease_at s.slots place)
   where
     by : (f : ℕ → List ℕ) (o : Option ℕ) → is_some (option_map f o) ≡ is_some o
@@ -80,7 +79,7 @@ puts-free {p} {p1} s s1 place words stands within puts =
     omega (arith, counts, places, here)
 
 -- none is the contrary of some
-none-by-some : (a b : Option ℕ) → is_some a ≡ is_some b → is_none a ≡ is_none b
+pub none-by-some : (a b : Option ℕ) → is_some a ≡ is_some b → is_none a ≡ is_none b
 none-by-some None None same = refl
 none-by-some None (Some t) same = absurd cc
 none-by-some (Some t) None same = absurd cc
@@ -126,30 +125,53 @@ empty-some xs from (suc n) i low high none = elim (cases_eq from i) as (λ _. 0 
       )
 ]
 
--- places without a block stand in each pool
-pub empty-stands : (p : Memory) (places : ℕ) → IsMemory p → SeatsStand p (empty places)
-empty-stands p places sound = record {
-  sound = sound;
-  holds = record {
-    stands = λ i slot here. absurd (cc (none i, here));
-    apart = λ i j slot here there. absurd (cc (none i, here));
-  };
-  named = record { named = λ i slot here. absurd (cc (none i, here)) };
-  fits = λ place slot here. absurd (cc (none place, here));
-  listed = long;
-}
+-- a run has no more places without a block than it has places
+pub empty-most : (xs : List (Option ℕ)) (from n : ℕ) → empty_count xs from n ≤ n
+empty-most xs from zero = omega arith
+empty-most xs from (suc n) =
+    let one = at-most-one (is_none (lease_at xs from)) in
+    let rest = empty-most xs (from + 1) n in
+    omega (arith, one, rest)
   where
-    none : (i : ℕ) → lease_at (empty places).slots i ≡ None
-    none i = alike places i
-      where
-        alike : (n k : ℕ) → lease_at (empty n).slots k ≡ None
-        alike zero k = refl
-        alike (suc n) zero = refl
-        alike (suc n) (suc k) = alike n k
+    at-most-one : (b : Bool) → one_if b ≤ 1
+    at-most-one true = omega arith
+    at-most-one false = omega arith
 
-    long : length (empty places).lens ≡ length (empty places).slots
-    long = by places
-      where
-        by : (n : ℕ) → length (empty n).lens ≡ length (empty n).slots
-        by zero = refl
-        by (suc n) = omega (arith, by n)
+-- a run in two parts
+pub empty-split : (xs : List (Option ℕ)) (from n m : ℕ) → empty_count xs from (n + m) ≡ empty_count xs from n + empty_count xs (from + n) m
+empty-split xs from zero m =
+    let all : 0 + m ≡ m = omega arith in
+    let place : from + 0 ≡ from = omega arith in
+    let left : empty_count xs from (0 + m) ≡ empty_count xs from m = ap (empty_count xs from) all in
+    let right : empty_count xs (from + 0) m ≡ empty_count xs from m = ap (λ k. empty_count xs k m) place in
+    omega (arith, left, right)
+empty-split xs from (suc n) m =
+    let all : suc n + m ≡ suc (n + m) = omega arith in
+    let place : from + 1 + n ≡ from + suc n = omega arith in
+    let left : empty_count xs from (suc n + m) ≡ empty_count xs from (suc (n + m)) = ap (empty_count xs from) all in
+    let rest = empty-split xs (from + 1) n m in
+    let right : empty_count xs (from + 1 + n) m ≡ empty_count xs (from + suc n) m = ap (λ k. empty_count xs k m) place in
+    omega (arith, left, rest, right)
+
+-- a run behind the first place
+empty-behind : (x : Option ℕ) (xs : List (Option ℕ)) (from n : ℕ) → empty_count (x ∷ xs) (suc from) n ≡ empty_count xs from n
+empty-behind x xs from zero = refl
+empty-behind x xs from (suc n) =
+    let next : suc from + 1 ≡ suc (from + 1) = omega arith in
+    let moved : empty_count (x ∷ xs) (suc from + 1) n ≡ empty_count (x ∷ xs) (suc (from + 1)) n = ap (λ k. empty_count (x ∷ xs) k n) next in
+    let rest = empty-behind x xs (from + 1) n in
+    omega (arith, moved, rest)
+
+-- a place has a block or none
+pub some-or-none : (o : Option ℕ) → one_if (is_some o) + one_if (is_none o) ≡ 1
+some-or-none None = refl
+some-or-none (Some t) = refl
+
+-- so all places are as many as those with a block and those without
+pub held-empty : (xs : List (Option ℕ)) → held_count xs + empty_count xs 0 (length xs) ≡ length xs
+held-empty [] = refl
+held-empty (x ∷ xs) =
+    let here = some-or-none x in
+    let rest = held-empty xs in
+    let behind : empty_count (x ∷ xs) 1 (length xs) ≡ empty_count xs 0 (length xs) = empty-behind x xs 0 (length xs) in
+    omega (arith, here, rest, behind)

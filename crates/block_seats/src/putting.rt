@@ -29,6 +29,18 @@ impl Seats {
         }
     }
 
+    /// Puts a block of so many zeros down at a place, whether a block is there or not.
+    pub fn put_zeros(&mut self, pool: &mut Pool, place: usize, len: usize)
+        requires stands { SeatsStand pool.old self.old }
+        requires at { place < length self.old.slots }
+        requires wide { IsWide pool.old len }
+        requires room { lease_at self.old.slots place ≡ None → 0 < free_in pool.old last_class }
+        ensures { Puts pool.old pool.new self.old self.new place (Some (replicate len 0)) }
+    {
+        self.clear(pool, place);
+        self.take(pool, place, len);
+    }
+
     /// Takes a slot for a block of so many zeros at a place without one.
     pub fn take(&mut self, pool: &mut Pool, place: usize, len: usize)
         requires stands { SeatsStand pool.old self.old }

@@ -9,3 +9,9 @@ pub mod SeenLemmas
 pub mod ClearLemmas
 pub mod UnsetLemmas
 pub mod NamedLemmas
+pub mod LengthLemmas
+pub mod BeginLemmas
+pub mod StartLemmas
+pub mod AllocateLemmas
+pub mod ReplaceLemmas
+pub mod NeedLemmas

@@ -1,9 +1,11 @@
 -- A block is put down at its place: the blocks are those of the state with this block.
-use Rattle.std.proofs.Common.{◌≡◌, ◌≢◌, ℕ, ◌<◌, List, [], length, slice_index_or, slice_set, inl, inr, refl, sym, ap, ◌∙◌, length-set, arith, Option, Some, None}
+use Rattle.std.proofs.Common.{◌≡◌, ◌≢◌, ℕ, ◌<◌, List, [], length, slice_index_or, slice_set, true, false, inl, inr, refl, sym, ap, ◌∙◌, length-set, arith, Option, Some, None}
 use Rattle.std.specs.Option.{option_map}
 use Rattle.std.proofs.lemmas.Bool.{cases_eq}
 use Rattle.std.proofs.lemmas.List.{get_or-set_same, get_or-set_other}
+use Rattle.sial_syntax.specs.declared.array.ArrayKind.{ArrayKind}
 use Rattle.sial_syntax.specs.declared.array.ArrayKind.TheVariants.{Static, Temp, Local}
+use Rattle.sial_syntax.specs.Spaces.{same_kind}
 use Rattle.sial_meaning.specs.Own.{Own, Held, static_block, local_block, temp_of, with_static, with_local, with_temp}
 use Rattle.sial_meaning.specs.Setting.{Setting, array_kind, block_count}
 use Rattle.block_pool.specs.Memory.{Memory}
@@ -11,7 +13,7 @@ use Rattle.block_seats.specs.Seated.{Seated, block_at}
 use Rattle.block_seats.specs.Putting.{Puts}
 use Rattle.exec_blocks.specs.Kept.{Kept, place_by}
 use Rattle.exec_blocks.specs.Standing.{IsLaidOut, BlocksStand}
-use Rattle.exec_blocks.proofs.RowLemmas.{entry-same, entry-other, rows-long}
+use Rattle.exec_blocks.proofs.RowLemmas.{row-other, entry-same, entry-other, rows-long}
 use Rattle.exec_blocks.proofs.PlaceLemmas.{places-differ, static-below, local-below}
 
 -- the layout stays
@@ -24,9 +26,11 @@ laid-after g b after puts laid = record {
   ranks = laid.ranks;
 }
 
--- two kinds
-static-not-temp : Static ≢ Temp
-static-not-temp e = absurd cc
+-- an array of another kind is another array
+pub kind-apart : (g : Setting) (kind : ArrayKind) (c a : ℕ) → same_kind (array_kind g c) kind ≡ false → array_kind g a ≡ kind → same_kind kind kind ≡ true → c ≡ a → ⊥
+kind-apart g kind c a other is self e =
+    let both : same_kind (array_kind g c) kind ≡ true = ap (λ (x : ℕ). same_kind (array_kind g x) kind) e ∙ (ap (λ (k : ArrayKind). same_kind k kind) is ∙ self) in
+    absurd (cc (both, other))
 
 module _ {p p1 : Memory} (g : Setting) (b : Kept) (after : Seated) (own : Own) (laid : IsLaidOut g b) (stands : BlocksStand g p b own) (a : ℕ) where
   -- a static block
@@ -58,6 +62,11 @@ module _ {p p1 : Memory} (g : Setting) (b : Kept) (after : Seated) (own : Own) (
         locals = λ c m kind under. puts.others (place_by g b c m Local) (λ e. absurd (omega (arith, e, static-below g b a n laid is below))) ∙ stands.locals c m kind under;
         temps = λ c declared kind. puts.others (place_by g b c 0 Temp) (λ e. absurd (omega (arith, e, static-below g b a n laid is below, laid.temps_at))) ∙ stands.temps c declared kind;
         tuples = stands.tuples;
+        others = λ c declared. let none = stands.others c declared in (
+          λ kind. row-other own.statics a n w [] inside c (λ e. kind-apart g Static c a kind is refl e) ∙ none.0 kind,
+          none.1,
+          λ kind. ((none.2 kind).0, puts.others (place_by g b c 0 Temp) (λ e. absurd (omega (arith, e, static-below g b a n laid is below, laid.temps_at))) ∙ (none.2 kind).1),
+        );
       }
 
   -- a local block, put down or taken away
@@ -89,6 +98,11 @@ module _ {p p1 : Memory} (g : Setting) (b : Kept) (after : Seated) (own : Own) (
         ];
         temps = λ c declared kind. puts.others (place_by g b c 0 Temp) (λ e. absurd (omega (arith, e, local-below g b a n laid is below))) ∙ stands.temps c declared kind;
         tuples = stands.tuples;
+        others = λ c declared. let none = stands.others c declared in (
+          none.0,
+          λ kind. row-other own.locals a n w None inside c (λ e. kind-apart g Local c a kind is refl e) ∙ none.1 kind,
+          λ kind. ((none.2 kind).0, puts.others (place_by g b c 0 Temp) (λ e. absurd (omega (arith, e, local-below g b a n laid is below))) ∙ (none.2 kind).1),
+        );
       }
 
   -- the block of a temp, with its tuple
@@ -119,4 +133,12 @@ module _ {p p1 : Memory} (g : Setting) (b : Kept) (after : Seated) (own : Own) (
               )
           | inr ne ↦ get_or-set_other b.tuples a c held.members [] ne ∙ stands.tuples c h declared kind (sym (get_or-set_other own.temps a c (Some held) None ne) ∙ has)
         ];
+        others = λ c declared. let none = stands.others c declared in (
+          none.0,
+          none.1,
+          λ kind. let apart : c ≢ a = λ e. kind-apart g Temp c a kind is refl e in (
+            get_or-set_other own.temps a c (Some held) None apart ∙ (none.2 kind).0,
+            puts.others (place_by g b c 0 Temp) (λ z. apart (omega (arith, z))) ∙ (none.2 kind).1,
+          ),
+        );
       }

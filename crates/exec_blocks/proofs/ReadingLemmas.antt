@@ -1,6 +1,6 @@
 -- What stands at the place of a named block is what the block is in the state.
 use Rattle.std.proofs.Common.{◌≡◌, ℕ, ◌<◌, List, [], length, slice_index_or, true, false, Ok, Err, Option, Some, None, refl, sym, ap, ◌∙◌, subst}
-use Rattle.std.specs.Option.{option_map}
+use Rattle.std.specs.Option.{option_map, unwrap_or}
 use Rattle.sial_syntax.specs.declared.array.ArrayKind.{ArrayKind}
 use Rattle.sial_syntax.specs.declared.array.ArrayKind.TheVariants.{Static, Temp, Local, Distributed, Served}
 use Rattle.sial_syntax.specs.declared.operand.BlockRef.{BlockRef}
@@ -10,7 +10,7 @@ use Rattle.sial_meaning.specs.LocalStep.{words_of, words_by_kind, held_words, is
 use Rattle.sial_meaning.specs.Own.{Own, Held, static_block, local_block, temp_of, members_of, same_members, number_of}
 use Rattle.sial_meaning.specs.Setting.{Setting, array_kind, dims_of, block_count}
 use Rattle.block_pool.specs.Memory.{Memory}
-use Rattle.block_seats.specs.Seated.{block_at}
+use Rattle.block_seats.specs.Seated.{Seated, block_at}
 use Rattle.exec_names.specs.Naming.{numbers_of}
 use Rattle.exec_blocks.specs.Kept.{Kept, place_by, place_of}
 use Rattle.exec_blocks.specs.Standing.{IsLaidOut, BlocksStand, IsNamed}
@@ -100,3 +100,9 @@ place-there g b values block Temp laid named is own =
     (temp-placed g b block.array laid named.declared)
 place-there g b values block Distributed laid named is own = absurd cc
 place-there g b values block Served laid named is own = absurd cc
+
+-- a static block at its place
+pub fixed-read : (g : Setting) (p : Memory) (b : Kept) (own : Own) (array number place : ℕ) (seats : Seated) (words : List ℕ) → array_kind g array ≡ Static → number < block_count g array → BlocksStand g p b own
+    → seats ≡ b.seats → place ≡ place_by g b array number Static → words ≡ unwrap_or (block_at p seats place) [] → words ≡ static_block own array number
+fixed-read g p b own array number place seats words is below stands same at read =
+    read ∙ ap (λ (o : Option (List ℕ)). unwrap_or o []) (ap (λ (s : Seated). block_at p s place) same ∙ (ap (block_at p b.seats) at ∙ stands.statics array number is below))

@@ -12,6 +12,10 @@ module _ {X : Type 0} (xss : List (List X)) (row place : ℕ) (x : X) (d : X) (i
   pub row-same : slice_index_or (with_entry xss row place x) row [] ≡ slice_set (slice_index_or xss row []) place x
   row-same = get_or-set_same xss row (slice_set (slice_index_or xss row []) place x) [] inside
 
+  -- any other row
+  pub row-other : (r : ℕ) → r ≢ row → slice_index_or (with_entry xss row place x) r [] ≡ slice_index_or xss r []
+  row-other r ne = get_or-set_other xss row r (slice_set (slice_index_or xss row []) place x) [] ne
+
   -- the entry
   pub entry-same : place < length (slice_index_or xss row []) → slice_index_or (slice_index_or (with_entry xss row place x) row []) place d ≡ x
   entry-same within = ap (λ (r : List X). slice_index_or r place d) row-same ∙ get_or-set_same (slice_index_or xss row []) place x d within

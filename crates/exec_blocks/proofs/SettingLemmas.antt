@@ -48,3 +48,14 @@ pub count-is : (g : Setting) (s : Placed) (array : ℕ) → s.spaces ≡ g.space
 count-is g s array same arrays =
     ap (λ (spaces : Spaces). blocks_of spaces (array_among s.arrays array)) same
     ∙ (ap (λ (xs : List ArrayDecl). blocks_of g.spaces (array_among xs array)) arrays ∙ ap (blocks_of g.spaces) (among-is g array))
+
+-- the indices of an array
+pub dims-are : (g : Setting) (s : Placed) (array : ℕ) → s.arrays ≡ map bare g.program.arrays → (array_among s.arrays array).dims ≡ dims_of g array
+dims-are g s array arrays = ap (λ (xs : List ArrayDecl). (array_among xs array).dims) arrays ∙ ap (λ (a : ArrayDecl). a.dims) (among-is g array)
+
+-- spaces and arrays that are those of a setting
+pub placed-is : (g : Setting) (s : Placed) → s.spaces ≡ g.spaces → s.arrays ≡ map bare g.program.arrays → ◌≡◌ {A = Placed} s (record { spaces = g.spaces; arrays = map bare g.program.arrays })
+placed-is g s same arrays = both s.spaces g.spaces s.arrays (map bare g.program.arrays) same arrays
+  where
+    both : (x y : Spaces) (xs ys : List ArrayDecl) → x ≡ y → xs ≡ ys → ◌≡◌ {A = Placed} (record { spaces = x; arrays = xs }) (record { spaces = y; arrays = ys })
+    both x y xs ys one two = rw (one, two) refl

@@ -45,6 +45,12 @@ row-left g own c there = each-read (length own.locals) (λ a. unset_if_inner (si
 local-left : (g : Setting) (own : Own) (c n : ℕ) → c < length own.locals → local_block (unset g own) c n ≡ left_of (side_of g c) (local_block own c n)
 local-left g own c n there = ap (λ (row : List (Option (List ℕ))). slice_index_or row n None) (row-left g own c there) ∙ inner-read (side_of g c) (slice_index_or own.locals c []) n
 
+-- nothing is left of no row
+none-left : (side : Side) → unset_if_inner side [] ≡ []
+none-left Outer = refl
+none-left Inner = refl
+none-left Unused = refl
+
 -- no temp has a block
 temp-left : (g : Setting) (own : Own) (c : ℕ) → temp_of (unset g own) c ≡ None
 temp-left g own c = none-at own.temps c
@@ -74,4 +80,9 @@ unset-stands {p} {p1} {p2} g b mid after own laid forgets clears stands =
           ∙ (ap (left_of (side_of g c)) (stands.locals c n is under) ∙ sym (local-left g own c n (there c is)))));
       temps = λ c declared is. clears.gone c declared ∙ sym (ap (option_map (λ (held : Held). held.words)) (temp-left g own c));
       tuples = λ c held declared is has. absurd (cc (temp-left g own c, has));
+      others = λ c declared. let none = stands.others c declared in (
+        none.0,
+        λ kind. row-left g own c (omega (arith, declared, stands.rows.locals)) ∙ (ap (unset_if_inner (side_of g c)) (none.1 kind) ∙ none-left (side_of g c)),
+        λ kind. (temp-left g own c, clears.gone c declared),
+      );
     }

@@ -3,3 +3,7 @@ pub mod Tuples
 pub mod Counting
 pub mod Standing
 pub mod Clearing
+pub mod Starting
+pub mod Beginning
+pub mod Allocating
+pub mod Needing

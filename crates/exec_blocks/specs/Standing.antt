@@ -35,6 +35,14 @@ pub record HasRows (g : Setting) (own : Own) : Type 0 where
   pub static_rows : (array : ℕ) → array_kind g array ≡ Static → length (slice_index_or own.statics array []) ≡ block_count g array
   pub local_rows : (array : ℕ) → array_kind g array ≡ Local → length (slice_index_or own.locals array []) ≡ block_count g array
 
+-- of an array of another kind a state has no static row, no local row, and no block of a temp, for which none stands
+abbrev pub HasNoOthers : Setting → Memory → Kept → Own → Type 0
+HasNoOthers g p b own =
+    (array : ℕ) → array < length g.program.arrays
+    → (same_kind (array_kind g array) Static ≡ false → slice_index_or own.statics array [] ≡ [])
+    × (same_kind (array_kind g array) Local ≡ false → slice_index_or own.locals array [] ≡ [])
+    × (same_kind (array_kind g array) Temp ≡ false → (temp_of own array ≡ None) × (block_at p b.seats (place_by g b array 0 Temp) ≡ None))
+
 -- the blocks in a pool are those of a state: each static block, each local block that is allocated, and the one that each temp holds
 pub record BlocksStand (g : Setting) (p : Memory) (b : Kept) (own : Own) : Type 0 where
   pub rows : HasRows g own
@@ -42,6 +50,7 @@ pub record BlocksStand (g : Setting) (p : Memory) (b : Kept) (own : Own) : Type 
   pub locals : (array number : ℕ) → array_kind g array ≡ Local → number < block_count g array → block_at p b.seats (place_by g b array number Local) ≡ local_block own array number
   pub temps : (array : ℕ) → array < length g.program.arrays → array_kind g array ≡ Temp → block_at p b.seats (place_by g b array 0 Temp) ≡ option_map (λ (held : Held). held.words) (temp_of own array)
   pub tuples : (array : ℕ) (held : Held) → array < length g.program.arrays → array_kind g array ≡ Temp → temp_of own array ≡ Some held → slice_index_or b.tuples array [] ≡ held.members
+  pub others : HasNoOthers g p b own
 
 -- a block that a statement names: of a declared array, with as many indices; one of the array's, if that isn't temp
 pub record IsNamed (g : Setting) (values : List ℕ) (block : BlockRef) : Type 0 where

@@ -1,24 +1,49 @@
-//! Places for a worker's own blocks.
+//! A worker's own blocks as its program begins.
 
-ghost use Rattle.std.specs.Prelude.{◌≡◌, ◌*◌, ◌^◌, ◌<◌, ◌≤◌, ℕ, [], false, length, slice_index_or, IfOk};
+ghost use Rattle.std.specs.Prelude.{◌≡◌, ◌*◌, ◌^◌, ◌<◌, ◌≤◌, ℕ, [], false, length, slice_index_or, IfOk, OnErr};
 ghost use Rattle.sip_setting.specs.Seen.{setting_of};
 ghost use Rattle.sial_syntax.specs.Spaces.{blocks_together, same_kind};
+ghost use Rattle.sial_meaning.specs.Own.{start_own};
 ghost use Rattle.sial_meaning.specs.Setting.{array_of, dims_of};
+ghost use Rattle.block_pool.specs.Changes.{IsMemory};
+ghost use Rattle.block_pool.specs.Memory.{free_in, last_class};
+ghost use Rattle.block_seats.specs.Leaving.{Leaves};
 ghost use Rattle.block_seats.specs.Seated.{empty};
-ghost use Rattle.exec_blocks.specs.Standing.{IsLaidOut};
+ghost use Rattle.exec_blocks.specs.Beginning.{IsWideFor, static_blocks};
+ghost use Rattle.exec_blocks.specs.Standing.{AreIn, BlocksStand, IsLaidOut};
 ghost use Rattle.exec_blocks.specs.Counting.{count_if};
 ghost use Rattle.exec_blocks.specs.Tuples.{tuples_of};
 
+use crate::beginning::put_statics;
 use crate::blocks::Blocks;
+use block_pool::Pool;
 use block_seats::Seats;
 use exec_job::Job;
 use exec_names::Member;
 use sial_syntax::ArrayKind;
+use sip_files::OutOfMemory;
 use std::alloc::{AllocError, Global};
 
 impl Blocks {
-    /// Places for the blocks of a program, with no block at any.
-    pub fn open(alloc: Global, job: &Job) -> Result<Blocks, AllocError>
+    /// The blocks that a worker has as its program begins: static ones as the input gives them, else zeros, and no others.
+    pub fn open(alloc: Global, job: &Job, pool: &mut Pool) -> Result<Blocks, OutOfMemory>
+        requires sound { IsMemory pool.old }
+        requires wide { IsWideFor (setting_of job.now) pool.old ArrayKind.Static }
+
+        // A slot for each block of a static array.
+        requires room { static_blocks (setting_of job.now) ≤ free_in pool.old last_class }
+        ensures stands { IfOk result (λ b. AreIn (setting_of job.now) pool.new b) }
+        ensures begins { IfOk result (λ b. BlocksStand (setting_of job.now) pool.new b (start_own (setting_of job.now))) }
+        ensures leaves { IfOk result (λ b. Leaves pool.old pool.new [] b.seats.slots) }
+        ensures failed { OnErr result (pool.new ≡ pool.old) }
+    {
+        let mut blocks = Blocks::places(alloc, job)?;
+        put_statics(&mut blocks.seats, job, pool);
+        Ok(blocks)
+    }
+
+    // Places for the blocks of a program, with no block at any.
+    fn places(alloc: Global, job: &Job) -> Result<Blocks, AllocError>
         ensures laid { IfOk result (IsLaidOut (setting_of job.now)) }
         ensures none { IfOk result (λ b. b.seats ≡ empty (length b.seats.slots)) }
     {

@@ -31,6 +31,7 @@ blocks_beside g p b own values scalars created st = record {
   locals = st.locals;
   temps = st.temps;
   tuples = st.tuples;
+  others = st.others;
 }
 
 -- a worker stands for work, with other index numbers than it held
