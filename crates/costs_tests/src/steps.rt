@@ -1,13 +1,20 @@
 //! The steps of programs.
 
-use crate::granting::granted;
 use sequential_costs::sequential_steps;
+use sip_files::MemoryFiles;
+use sip_grant::load_granted;
 use std::alloc::Global;
 use std::process::Abort;
 
 // The steps of a program with an input.
 fn steps(rt: &impl Abort, alloc: Global, program: &[u8], input: &[u8]) -> u64 {
-    sequential_steps(alloc, &granted(rt, alloc, program, input))
+    let mut files = MemoryFiles::new(alloc);
+    assert!(rt; files.put("program", program).is_ok());
+    assert!(rt; files.put("input", input).is_ok());
+    let granted = load_granted(alloc, &mut files, "program", "input")
+        .ok()
+        .expect(rt, "the rules grant it");
+    sequential_steps(alloc, &granted)
         .ok()
         .expect(rt, "memory is found")
 }
