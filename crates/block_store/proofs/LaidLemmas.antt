@@ -20,8 +20,8 @@ block_at start (end ∷ ends) words zero within = refl
 block_at start (end ∷ ends) words (suc k) within = block_at end ends words k (omega arith)
 
 -- the first block begins within the list
-start_within : (start : ℕ) (ends : List ℕ) (count : ℕ) → InOrder start ends count → start ≤ count
-start_within start [] count order = order
+pub start_within : (start : ℕ) (ends : List ℕ) (count : ℕ) → InOrder start ends count → start ≤ count
+start_within start [] count order = omega (arith, order)
 start_within start (end ∷ ends) count order = omega (arith, order.0, start_within end ends count order.1)
 
 -- no block begins before the first
@@ -105,7 +105,7 @@ block_written start (end ∷ ends) words new (suc k) order within len =
     ∙ ap (λ r. slice_range words start end ∷ r) (block_written end ends words new k order.1 few len)
 
 -- as many numbers as before
-length_written : (a k : ℕ) (xs ys : List ℕ) → a + k ≤ length xs → length ys ≡ k → length (put_mid a k xs ys) ≡ length xs
+pub length_written : (a k : ℕ) (xs ys : List ℕ) → a + k ≤ length xs → length ys ≡ k → length (put_mid a k xs ys) ≡ length xs
 length_written a k xs ys fits same =
     length-append (take a xs) (ys ++ drop k (drop a xs))
     ∙ omega (arith, length-append ys (drop k (drop a xs)), length-take-le a xs (omega arith), length-drop k (drop a xs), length-drop a xs)
@@ -144,7 +144,7 @@ all_ended sizes ends end met ended last all =
     }
 
 -- blocks of these sizes are in order
-pub in_order : (start : ℕ) (sizes : List ℕ) (count : ℕ) → end_from start sizes ≤ count → InOrder start (ends_from start sizes) count
+pub in_order : (start : ℕ) (sizes : List ℕ) (count : ℕ) → end_from start sizes ≡ count → InOrder start (ends_from start sizes) count
 in_order start [] count fits = fits
 in_order start (size ∷ sizes) count fits = (omega arith, in_order (start + size) sizes count fits)
 

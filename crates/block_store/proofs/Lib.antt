@@ -1,3 +1,4 @@
 pub mod LaidLemmas
 pub mod MemoryLemmas
 pub mod StoreLemmas
+pub mod LentLemmas

@@ -1,2 +1,4 @@
 pub mod Store
 pub mod Memory
+pub mod Lent
+pub mod LendsBlock

@@ -1,5 +1,5 @@
 -- A store in memory: the blocks in order of their numbers.
-use Rattle.std.specs.Prelude.{ℕ, ◌+◌, ◌≤◌, List, [], ◌∷◌, map, length, replicate, slice_index, slice_range}
+use Rattle.std.specs.Prelude.{◌≡◌, ℕ, ◌+◌, ◌≤◌, List, [], ◌∷◌, map, length, replicate, slice_index, slice_range}
 use Rattle.std.specs.FinMap as finite
 use Rattle.block_store.specs.Store.{Blocks}
 
@@ -8,9 +8,9 @@ abbrev pub blocks_from : ℕ → List ℕ → List ℕ → List (List ℕ)
 blocks_from start [] words = []
 blocks_from start (end ∷ ends) words = slice_range words start end ∷ blocks_from end ends words
 
--- each block ends where it begins or later, and the last one within so many numbers
+-- each block ends where it begins or later, and the last one behind so many numbers
 abbrev pub InOrder : ℕ → List ℕ → ℕ → Type 0
-InOrder start [] count = start ≤ count
+InOrder start [] count = start ≡ count
 InOrder start (end ∷ ends) count = (start ≤ end) × InOrder end ends count
 
 -- where a block begins

@@ -1,7 +1,9 @@
 //! A store in memory.
 
-ghost use Rattle.std.specs.Prelude.{◌≡◌, ◌<◌, Some, length, slice_index, IfOk};
+ghost use Rattle.std.specs.Prelude.{◌≡◌, ◌<◌, ℕ, List, [], Some, length, slice_index, slice_index_or, slice_set, IfOk};
+ghost use Rattle.std.specs.Borrow.{sem};
 ghost use Rattle.block_store.specs.Memory.{blocks_of, sizes_of, zeros, begin_of};
+ghost use Rattle.block_store.specs.Lent.{written_back};
 ghost use Rattle.sip_files.specs.Kept.{stands_alone};
 
 use crate::store::Store;
@@ -31,6 +33,8 @@ impl Model for MemoryStore {
 }
 
 impl MemoryStore {
+    ghost use Rattle.block_store.specs.LendsBlock.{lends_block};
+
     /// Takes a block of zeros for each size.
     pub fn open(alloc: Global, sizes: &[u32]) -> Result<MemoryStore, OutOfMemory>
         ensures { IfOk result (λ store. store ≡ zeros sizes.now) }
@@ -44,6 +48,27 @@ impl MemoryStore {
         }
         let words = vec![in alloc; 0u64; end]?;
         Ok(MemoryStore { words, ends })
+    }
+
+    /// The words of a block.
+    pub fn words(&self, block: u32) -> &[u64]
+        requires { block < length self.now }
+        ensures { result.now ≡ slice_index_or self.now block [] }
+    {
+        &self.words[place_of(&self.ends, block as usize)]
+    }
+
+    /// The words of a block, to be written.
+    pub fn words_mut(&mut self, block: u32) -> &mut [u64]
+        requires { block < length self.old }
+        ensures* writes_back { sem 𝓛 (lends_block self.entry block result) }
+        ensures value { result.now ≡ slice_index_or self.old block [] }
+
+        // As many words as the block has are its new ones, and no other block changes.
+        ensures same { (ws : List ℕ) → length ws ≡ length result.now → written_back self.old block ws ≡ slice_set self.old block ws }
+    {
+        let place = place_of(&self.ends, block as usize);
+        self.words.slice_mut(place)
     }
 }
 
