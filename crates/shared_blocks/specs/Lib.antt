@@ -1,0 +1,4 @@
+pub mod Standing
+pub mod Lengths
+pub mod Starting
+pub mod Laws
