@@ -6,3 +6,4 @@ pub mod Shared
 pub mod Sending
 pub mod Printing
 pub mod Instructions
+pub mod RunLaws

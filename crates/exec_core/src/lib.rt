@@ -2,9 +2,12 @@
 #![tactic(auto)]
 
 mod ending;
+mod fixed;
+mod laws;
 mod local;
 mod naming;
 mod needs;
+mod opening;
 mod pardo;
 mod printed;
 mod printing;
@@ -15,6 +18,7 @@ mod stepping;
 mod syncing;
 mod unsetting;
 
+pub use laws::{good_work_runs_well, work_runs_well};
 pub use local::Local;
 pub use printed::Printed;
 pub use shared::{Needs, SharedBlock};
