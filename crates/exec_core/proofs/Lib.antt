@@ -6,3 +6,4 @@ pub mod InstructionLemmas
 pub mod SendingLemmas
 pub mod PrintLemmas
 pub mod GrantedLemmas
+pub mod LocalLemmas
