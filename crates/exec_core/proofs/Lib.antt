@@ -5,3 +5,5 @@ pub mod SharedLemmas
 pub mod InstructionLemmas
 pub mod SendingLemmas
 pub mod PrintLemmas
+pub mod GrantedLemmas
+pub mod LocalLemmas

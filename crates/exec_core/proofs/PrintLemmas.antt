@@ -1,9 +1,8 @@
 -- Statements that print, as the definitions do them.
-use Rattle.std.proofs.Common.{◌≡◌, ℕ, List, [], ◌∷◌, Option, Some, None, slice_get, Result, Ok, Err, refl, sym, ap, ◌∙◌, subst}
+use Rattle.std.proofs.Common.{◌≡◌, ℕ, List, [], ◌∷◌, Option, Some, None, slice_get, Ok, Err, refl, sym, ap, subst}
 use Rattle.std.proofs.lemmas.Option.{get_or_from_slice_get}
 use Rattle.block_pool.specs.Memory.{Memory}
 use Rattle.sial_syntax.specs.Tree.{Plain, Print, PrintScalar}
-use Rattle.sial_meaning.specs.declared.trap.Trap.{Trap}
 use Rattle.sial_meaning.specs.declared.trap.TrapKind.TheVariants.{UnsetScalar}
 use Rattle.sial_meaning.specs.LocalStep.{and_then, local_step, or_trap, scalar_line}
 use Rattle.sial_meaning.specs.Next as next
@@ -15,11 +14,10 @@ use Rattle.sial_meaning.specs.Statement.{trap_at}
 use Rattle.sip_tables.specs.Flatten.{flatten}
 use Rattle.exec_control.specs.Position.{Position}
 use Rattle.exec_control.specs.Stands as stands
-use Rattle.exec_core.specs.declared.printed.Printed.{Printed}
 use Rattle.exec_core.specs.declared.printed.Printed.TheVariants.{Text, Scalar}
 use Rattle.exec_core.specs.Moves.{Passes}
 use Rattle.exec_core.specs.Parts.{Parts}
-use Rattle.exec_core.specs.Printing.{Does, Ends, lines_of}
+use Rattle.exec_core.specs.Printing.{Ends}
 use Rattle.exec_core.specs.Stands.{LocalStands}
 use Rattle.exec_core.proofs.StepLemmas.{passed_on}
 

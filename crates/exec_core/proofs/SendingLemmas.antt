@@ -1,5 +1,5 @@
 -- What the instruction at the cursor sends or prints is what the statement does that comes next.
-use Rattle.std.proofs.Common.{◌≡◌, ℕ, ◌<◌, inl, inr, List, ◌∷◌, ◌++◌, Bool, true, ◌&&◌, nat_lt, length, Option, Some, None, refl, sym, ap, subst, arith}
+use Rattle.std.proofs.Common.{◌≡◌, ℕ, ◌<◌, inl, inr, List, ◌++◌, Bool, true, ◌&&◌, nat_lt, length, Some, refl, sym, ap, subst, arith}
 use Rattle.std.proofs.lemmas.Bool.Decides.{nat_tests}
 use Rattle.std.specs.Prelude.{IfSome, flat_map}
 use Rattle.std.specs.List.{list_all}
@@ -17,7 +17,7 @@ use Rattle.sial_meaning.specs.Own.{Own}
 use Rattle.sial_meaning.specs.Rest.{Rest, Over, Next, Turn, Join, Back, Within, place}
 use Rattle.sial_meaning.specs.Setting.{Setting}
 use Rattle.sial_meaning.specs.Sound.{IsSound}
-use Rattle.sial_meaning.proofs.AcceptedInOtherWords.Pairs.{never, first-holds, second-holds, holds-so}
+use Rattle.sial_meaning.proofs.AcceptedInOtherWords.Pairs.{first-holds, second-holds, holds-so}
 use Rattle.sial_meaning.proofs.Granted.Ranges.{InRange}
 use Rattle.sial_meaning.proofs.Granted.Visits.{Good}
 use Rattle.sial_meaning.proofs.StatesAreWhole.Rest.{GoodRest}

@@ -6,3 +6,5 @@ pub mod Shared
 pub mod Sending
 pub mod Printing
 pub mod Instructions
+pub mod Locals
+pub mod RunLaws

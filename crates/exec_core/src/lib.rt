@@ -2,10 +2,15 @@
 #![tactic(auto)]
 
 mod ending;
+mod fixed;
+mod laws;
 mod local;
+mod locals;
 mod naming;
 mod needs;
+mod opening;
 mod pardo;
+mod passing;
 mod printed;
 mod printing;
 mod reading;
@@ -15,6 +20,7 @@ mod stepping;
 mod syncing;
 mod unsetting;
 
+pub use laws::{good_work_runs_well, work_runs_well};
 pub use local::Local;
 pub use printed::Printed;
 pub use shared::{Needs, SharedBlock};

@@ -2,7 +2,6 @@ use Rattle.std.proofs.Common.{◌<◌, ℕ, Ok, length, refl, sym, ap, ◌∙◌
 use Rattle.sip_setting.specs.Seen.{setting_of}
 use Rattle.sip_tables.specs.declared.instruction.Operation.{Operation}
 use Rattle.sip_tables.specs.Flatten.{flatten}
-use Rattle.sial_syntax.specs.Tree.{PrintScalar}
 use Rattle.sial_meaning.specs.Next.{Task, next_of}
 use Rattle.code_places.specs.Items.{ItemOf}
 use Rattle.code_places.specs.Standing.{HasAt}
