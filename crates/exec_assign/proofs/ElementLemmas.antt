@@ -1,5 +1,5 @@
 -- The elements of named blocks, whichever values are read.
-use Rattle.std.proofs.Common.{◌≡◌, ℕ, List, [], ◌∷◌, ◌++◌, map, true, false, Bool, Result, Ok, Err, Option, refl, sym, ap, ◌∙◌}
+use Rattle.std.proofs.Common.{◌≡◌, ℕ, List, [], ◌∷◌, ◌++◌, map, true, false, Bool, Result, Ok, Err, Option, refl, ap, ◌∙◌}
 use Rattle.std.specs.Prelude.{IfOk, IfErr, if◌then◌else◌}
 use Rattle.std.specs.Borrow.{Bor}
 use Rattle.block_pool.specs.Memory.{Memory}
@@ -8,7 +8,7 @@ use Rattle.sial_syntax.specs.declared.array.ArrayKind.TheVariants.{Static, Temp,
 use Rattle.sial_syntax.specs.declared.operand.BlockRef.{BlockRef}
 use Rattle.sial_syntax.specs.declared.operand.Operand.TheVariants.{Block}
 use Rattle.sial_meaning.specs.declared.trap.TrapKind.{TrapKind}
-use Rattle.sial_meaning.specs.LocalStep.{Answer, first_value, is_shared_kind, words_by_kind, words_of}
+use Rattle.sial_meaning.specs.LocalStep.{first_value, is_shared_kind, words_by_kind, words_of}
 use Rattle.sial_meaning.specs.Own.{Own}
 use Rattle.sial_meaning.specs.Setting.{Setting, array_kind}
 use Rattle.exec_sides.specs.Short.{volume_now}

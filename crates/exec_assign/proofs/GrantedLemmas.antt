@@ -1,5 +1,5 @@
 -- Assignments of a sound program, where they break no rule and their indices have numbers in their ranges: what the calls of this crate require.
-use Rattle.std.proofs.Common.{◌≡◌, ℕ, ◌^◌, ◌<◌, ◌≤◌, inl, inr, List, [], ◌∷◌, ◌++◌, drop, length, Bool, true, false, ◌&&◌, nat_lt, Option, Some, None, Ok, Err, refl, sym, ap, ◌∙◌, subst, arith}
+use Rattle.std.proofs.Common.{◌≡◌, ℕ, ◌^◌, ◌<◌, ◌≤◌, inl, inr, List, [], ◌∷◌, ◌++◌, drop, length, Bool, true, false, ◌&&◌, nat_lt, Some, Ok, refl, sym, ap, subst, arith}
 use Rattle.std.proofs.lemmas.Bool.Decides.{nat_tests}
 use Rattle.std.specs.Prelude.{if◌then◌else◌, flat_map, not, slice_get}
 use Rattle.std.specs.List.{list_all}

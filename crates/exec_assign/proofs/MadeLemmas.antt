@@ -18,7 +18,7 @@ use Rattle.sial_meaning.specs.Setting.{Setting, array_kind}
 use Rattle.sial_meaning.proofs.Granted.Sameness.{answer-one}
 use Rattle.exec_blocks.specs.Kept.{Kept}
 use Rattle.exec_blocks.specs.Standing.{BlocksStand}
-use Rattle.exec_scalars.specs.Numbers.{Numbers, AreNumbers}
+use Rattle.exec_scalars.specs.Numbers.{Numbers}
 use Rattle.exec_sides.specs.Fits.{CanAssign, Fits, IsAssigned}
 use Rattle.exec_sides.proofs.Forgetting.{old_forgotten}
 use Rattle.exec_assign.specs.Made.{BlocksAreDone, BlocksEnd, words_made}

@@ -12,7 +12,7 @@ use Rattle.sial_syntax.specs.Boxes.{volume}
 use Rattle.sial_syntax.specs.Spaces.{Extent, extent}
 use Rattle.sial_meaning.specs.LocalStep.{Answer, and_then, first_value, is_shared_kind, shared_operand, side_read, term_of, words_of}
 use Rattle.sial_meaning.specs.Own.{Own, sight}
-use Rattle.sial_meaning.specs.Right.{Term, Shown, Side, Alone, Joined}
+use Rattle.sial_meaning.specs.Right.{Term, Shown, Alone, Joined}
 use Rattle.sial_meaning.specs.Setting.{Setting, array_kind}
 use Rattle.sial_meaning.specs.Sight.{lengths}
 use Rattle.exec_sides.specs.Short.{volume_now}

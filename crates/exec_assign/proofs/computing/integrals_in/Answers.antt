@@ -1,4 +1,4 @@
-use Rattle.std.proofs.Common.{◌≡◌, ◌<◌, ◌^◌, ℕ, List, length, false, Ok, Err, sym, ap, ◌∙◌, subst, arith}
+use Rattle.std.proofs.Common.{length, false, sym, ◌∙◌, arith}
 use Rattle.sip_setting.specs.Seen.{setting_of}
 use Rattle.sial_meaning.specs.LocalStep.{old_words}
 use Rattle.sial_meaning.specs.Setting.{array_kind}

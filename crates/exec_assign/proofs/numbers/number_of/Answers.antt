@@ -1,4 +1,4 @@
-use Rattle.std.proofs.Common.{◌≡◌, Ok, ap, ◌∙◌}
+use Rattle.std.proofs.Common.{ap, ◌∙◌}
 use Rattle.sip_setting.specs.Seen.{setting_of}
 use Rattle.sial_meaning.specs.LocalStep.{side_read}
 use Rattle.exec_sides.specs.Seen.{side_of}

@@ -1,4 +1,4 @@
-use Rattle.std.proofs.Common.{◌≡◌, refl, sym, ap, ◌∙◌}
+use Rattle.std.proofs.Common.{refl, sym, ap, ◌∙◌}
 use Rattle.sip_setting.specs.Seen.{setting_of}
 use Rattle.sial_meaning.specs.Right.{is_insertion}
 use Rattle.exec_sides.specs.declared.side.Side.{Side}

@@ -1,4 +1,4 @@
-use Rattle.std.proofs.Common.{ap, ◌∙◌, sym, false, ◌&&◌, not}
+use Rattle.std.proofs.Common.{◌∙◌, sym}
 use Rattle.exec_assign.proofs.PartLemmas.{part_named, part_of, part_uncut}
 use Rattle.exec_assign.proofs.parts.is_part.Goals as goal
 

@@ -1,4 +1,4 @@
-use Rattle.std.proofs.Common.{◌≡◌, ℕ, List, length, map, take, Ok, Err, ap, ◌∙◌}
+use Rattle.std.proofs.Common.{ℕ, List, length, map, take, Ok, Err, ap, ◌∙◌}
 use Rattle.std.specs.Borrow.{Bor}
 use Rattle.sip_setting.specs.Seen.{setting_of}
 use Rattle.exec_names.specs.Naming.{extent_of}

@@ -1,4 +1,4 @@
-use Rattle.std.proofs.Common.{◌≡◌, ℕ, List, Ok, Err, ap, ◌∙◌}
+use Rattle.std.proofs.Common.{ap, ◌∙◌}
 use Rattle.sip_setting.specs.Seen.{setting_of}
 use Rattle.sial_meaning.specs.LocalStep.{Answer, and_then}
 use Rattle.sial_meaning.specs.Right.{Side}

@@ -1,8 +1,7 @@
-use Rattle.std.proofs.Common.{◌≡◌, ℕ, List, Ok, Err, sym, ap, ◌∙◌, subst, length, ◌||◌}
+use Rattle.std.proofs.Common.{◌≡◌, ℕ, List, sym, ap, ◌∙◌, length, ◌||◌}
 use Rattle.sip_setting.specs.Seen.{setting_of}
 use Rattle.sial_meaning.specs.LocalStep as step
 use Rattle.sial_meaning.specs.LocalStep.{old_words}
-use Rattle.sial_meaning.specs.Own.{Own}
 use Rattle.sial_meaning.specs.Right.{is_insertion}
 use Rattle.sial_meaning.specs.Setting.{array_kind}
 use Rattle.exec_sides.specs.Seen.{extents_of, side_of}
