@@ -1,0 +1,9 @@
+pub mod ExtentLemmas
+pub mod ElementLemmas
+pub mod ReadLemmas
+pub mod NumberLemmas
+pub mod LengthLemmas
+pub mod SpaceLemmas
+pub mod PartLemmas
+pub mod MadeLemmas
+pub mod GrantedLemmas
