@@ -36,3 +36,6 @@ pub met-long : (how : Access) (xs ys : List ℕ) → length ys ≡ length xs →
 met-long how [] ys same = refl
 met-long how (x ∷ xs) [] same = absurd (omega (arith, same))
 met-long how (x ∷ xs) (y ∷ ys) same = let rest = met-long how xs ys (omega (arith, same)) in omega (arith, rest)
+
+-- all of them
+pub ruleset all = (read, stored, added, greater)

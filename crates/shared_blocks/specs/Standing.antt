@@ -24,10 +24,13 @@ pub record IsThere (g : Setting) (own : Own) (class : Class) (array number : ℕ
 -- the blocks of all arrays of a kind, each as long as it should be
 pub record AreWhole (g : Setting) (kind : ArrayKind) (blocks : List (List ℕ)) : Type 0 where
   pub count : length blocks ≡ blocks_together g.spaces kind g.program.arrays
-  pub words : (array number : ℕ) → array_kind g array ≡ kind → number < block_count g array → length (slice_index_or blocks (first_of_class g array + number) []) ≡ block_words g array number
+  pub words : (array number : ℕ) → array_kind g array ≡ kind → number < block_count g array
+      → length (slice_index_or blocks (first_of_class g array + number) []) ≡ block_words g array number
 
--- the blocks that are held stand for those of a state: there are as many, and each block of an array that is there has the same words; in another there may be any
+-- the blocks that are held stand for those of a state: there are as many, each as long as its array says,
+-- and a block of an array that is there has the same words; one of another array may hold any
 pub record SharedStand (g : Setting) (held : Shared) (own : Own) (shared : Shared) : Type 0 where
   pub whole : (class : Class) → AreWhole g (kind_of_class class) (blocks_of_class held class)
   pub counts : (class : Class) → length (blocks_of_class shared class) ≡ length (blocks_of_class held class)
-  pub words : (class : Class) (array number : ℕ) → IsThere g own class array number → shared_block held class (first_of_class g array + number) ≡ shared_block shared class (first_of_class g array + number)
+  pub words : (class : Class) (array number : ℕ) → IsThere g own class array number
+      → shared_block held class (first_of_class g array + number) ≡ shared_block shared class (first_of_class g array + number)

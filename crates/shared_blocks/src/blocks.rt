@@ -32,7 +32,8 @@ impl SharedBlocks {
         ensures value { result.now ≡ shared_block self.now class block }
 
         // A block of an array that is there has the words that it has in each state that the blocks stand for.
-        ensures stands { (g : Setting) (own : Own) (shared : Shared) (array number : ℕ) → SharedStand g self.now own shared → IsThere g own class array number
+        ensures stands { (g : Setting) (own : Own) (shared : Shared) (array number : ℕ)
+            → SharedStand g self.now own shared → IsThere g own class array number
             → block ≡ first_of_class g array + number → result.now ≡ shared_block shared class block }
     {
         match class {

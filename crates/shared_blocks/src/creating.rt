@@ -23,7 +23,8 @@ impl SharedBlocks {
 
         // They stand for each state that they stood for, with the array created.
         ensures stands { (own : Own) (shared : Shared) → SharedStand (setting_of job.now) self.old own shared
-            → SharedStand (setting_of job.now) self.new (with_created array true own) (with_zeros (setting_of job.now) array Class.Distributed shared) }
+            → SharedStand (setting_of job.now) self.new (with_created array true own)
+            (with_zeros (setting_of job.now) array Class.Distributed shared) }
     {
         self.zero_array(job, array);
     }
@@ -42,7 +43,8 @@ impl SharedBlocks {
 fn zero_blocks(blocks: &mut MemoryStore, job: &Job, array: u16)
     requires kind { array_kind (setting_of job.now) array ≡ ArrayKind.Distributed }
     requires whole { AreWhole (setting_of job.now) ArrayKind.Distributed blocks.old }
-    ensures { blocks.new ≡ with_run (first_of_class (setting_of job.now) array) (for_each (block_count (setting_of job.now) array) (zeros (setting_of job.now) array)) blocks.old }
+    ensures { blocks.new ≡ with_run (first_of_class (setting_of job.now) array)
+        (for_each (block_count (setting_of job.now) array) (zeros (setting_of job.now) array)) blocks.old }
 {
     let first = first_block(job, array);
     for number in 0..block_count(job, array) {

@@ -7,7 +7,7 @@ use block_math::{add, greatest};
 use sial_syntax::Access;
 
 /// Words meet a block's words, as an access does.
-#[tactic(auto, using(crate::proofs::MeetLemmas::read, crate::proofs::MeetLemmas::stored, crate::proofs::MeetLemmas::added, crate::proofs::MeetLemmas::greater))]
+#[tactic(auto, using(crate::proofs::MeetLemmas::all))]
 pub fn meet(words: &mut [u64], how: Access, from: &[u64])
     requires { length words.old ≡ length from.now }
     ensures { words.new ≡ accessed_words how words.old from.now }

@@ -23,7 +23,8 @@ use std::alloc::{AllocError, Global};
 impl SharedBlocks {
     /// Takes all blocks: those of served arrays begin as the input gives them, else as zeros.
     pub fn open(alloc: Global, job: &Job) -> Result<SharedBlocks, OutOfMemory>
-        ensures { IfOk result (λ b. SharedStand (setting_of job.now) b (start_own (setting_of job.now)) (start_state (setting_of job.now)).shared) }
+        ensures { IfOk result (λ b. SharedStand (setting_of job.now) b (start_own (setting_of job.now))
+            (start_state (setting_of job.now)).shared) }
     {
         let distributed = zeros(alloc, job, ArrayKind::Distributed)?;
         let mut served = zeros(alloc, job, ArrayKind::Served)?;
@@ -71,7 +72,8 @@ fn push_if(lengths: &mut Vec<u32>, job: &Job, array: u16, kind: ArrayKind) -> Re
 // The lengths of an array's blocks.
 fn push_lengths(lengths: &mut Vec<u32>, job: &Job, array: u16) -> Result<(), AllocError>
     requires { same_kind (array_kind (setting_of job.now) array) ArrayKind.Temp ≡ false }
-    ensures { OnOk result (lengths.new.items ≡ lengths.old.items ++ for_each (block_count (setting_of job.now) array) (block_words (setting_of job.now) array)) }
+    ensures { OnOk result (lengths.new.items
+        ≡ lengths.old.items ++ for_each (block_count (setting_of job.now) array) (block_words (setting_of job.now) array)) }
 {
     for number in 0..block_count(job, array) {
         lengths.push(block_len(job, array, number))?;

@@ -20,7 +20,8 @@ pub fn put_given(served: &mut MemoryStore, job: &Job)
     requires { AreWhole (setting_of job.now) ArrayKind.Served served.old }
     ensures sound { IsSound (setting_of job.now) }
     ensures whole { AreWhole (setting_of job.now) ArrayKind.Served served.new }
-    ensures start { AreStartBut (setting_of job.now) served.old (setting_of job.now).blocks → AreStartBut (setting_of job.now) served.new [] }
+    ensures start { AreStartBut (setting_of job.now) served.old (setting_of job.now).blocks
+        → AreStartBut (setting_of job.now) served.new [] }
 {
     let _spaces = job.spaces();
     let blocks = job.start_blocks();
@@ -48,7 +49,8 @@ fn put_served(served: &mut MemoryStore, job: &Job, block: &StartBlock)
     requires kind { array_kind (setting_of job.now) block.now.array ≡ ArrayKind.Served }
     requires fits { is_start (setting_of job.now) (given (given_of block.now)) ≡ true }
     requires whole { AreWhole (setting_of job.now) ArrayKind.Served served.old }
-    ensures { served.new ≡ slice_set served.old (first_of_class (setting_of job.now) block.now.array + block.now.number) block.now.words.items }
+    ensures { served.new
+        ≡ slice_set served.old (first_of_class (setting_of job.now) block.now.array + block.now.number) block.now.words.items }
 {
     let first = first_block(job, block.array);
     let words = served.words_mut(first + block.number);
