@@ -1,6 +1,6 @@
 //! A pardo in progress.
 
-ghost use Rattle.std.specs.Prelude.{◌≡◌, ℕ, ◌<◌, ◌≤◌, All, length};
+ghost use Rattle.std.specs.Prelude.{◌≡◌, ℕ, ◌<◌, ◌≤◌, ◌-◌, ◌^◌, min, All, length};
 ghost use Rattle.sial_meaning.specs.Control.{taken};
 ghost use Rattle.sial_meaning.specs.Own.{Own, unset};
 ghost use Rattle.sial_meaning.specs.Rest.{PardoAt, Rest, Within};
@@ -20,6 +20,17 @@ use index_spaces::Spaces;
 use sip_tables::Operation;
 
 impl Control {
+    /// How many tuples the box has of the pardo at whose end the cursor is.
+    pub fn tuples(&self, job: &Job) -> u64
+        requires at_end { IsAtPardoEnd (setting_of job.now) self.now }
+        ensures { (pardo : PardoAt) (last : ℕ) (more : Rest) (own : Own)
+            → ControlStands (setting_of job.now) self.now (Within pardo last more) own
+            → result ≡ min (volume (box_of (setting_of job.now).spaces pardo.indices)) (2 ^ 64 - 1) }
+    {
+        let (_, indices) = head_of(job, self.at);
+        job.spaces().box_len(indices)
+    }
+
     /// Binds the indices of the pardo at whose end the cursor is to the tuple at a place of its box, and tells whether its
     /// `where` lines hold. Then the cursor goes to its body, else it stays. The scalars are those behind the unsetting of
     /// all that an iteration begins without.
