@@ -1,9 +1,9 @@
 //! How deep procedures call, and which call leads back.
 
-use crate::building::{procedure, program};
-use crate::texts::parsed;
+use crate::lines::call_in_each;
+use crate::texts::{DECLARED, parsed};
 use scalar_discipline::{RuleFault, call_depths};
-use sial_syntax::{Form, Program, Stmt};
+use sial_syntax::Program;
 use std::alloc::{AllocError, Global};
 use std::test::Fail;
 
@@ -16,9 +16,21 @@ fn depth(alloc: Global, program: &Program) -> Result<u32, RuleFault> {
     Ok(depths.as_slice().first().copied().unwrap_or(0))
 }
 
-// Procedures `p0`, `p1` and so on, each of which calls one in the `else` of an `if`, and `z`, which calls none;
+// The same of a program of these lines.
+fn depth_of(alloc: Global, lines: &[u8]) -> Result<Result<u32, RuleFault>, Fail> {
+    let program = parsed(alloc, DECLARED, lines)?;
+    Ok(depth(alloc, &program))
+}
+
+#[test]
+fn without_procedures_nothing_is_deep(rt: HostRuntime) -> Result<(), Fail> {
+    assert_eq!(rt; depth_of(rt.alloc(), b"")?, Ok(0));
+    Ok(())
+}
+
+// Procedures `p0`, `p1` and `p2`, each of which calls one in the `else` of an `if`, and `z`, which calls none;
 // so `p0` calls on line 18, `p1` on line 24.
-fn calling(alloc: Global, calls: &[&str]) -> Result<Program, Fail> {
+fn calling(alloc: Global, calls: [&str; 3]) -> Result<Vec<u8>, Fail> {
     let mut text = Vec::new(alloc);
     for (number, name) in calls.iter().enumerate() {
         text.extend_from_slice(format!(in alloc;
@@ -26,76 +38,63 @@ fn calling(alloc: Global, calls: &[&str]) -> Result<Program, Fail> {
         )?.as_bytes())?;
     }
     text.extend_from_slice(b"proc z\nendproc\ncall z\ncall z\n")?;
-    parsed(alloc, text.as_slice())
+    Ok(text)
 }
 
 #[test]
-fn a_procedure_is_one_deeper_than_those_that_it_calls(rt: HostRuntime) -> Result<(), Fail> {
-    let alloc = rt.alloc();
+fn procedures_are_as_deep_as_they_call_or_the_first_call_that_leads_back_is_told(
+    rt: HostRuntime,
+) -> Result<(), Fail> {
     for (calls, want) in [
-        (["z", "z", "z"], 2),
-        (["p1", "p2", "z"], 4),
-        (["p2", "z", "p1"], 4),
-        (["p2", "p2", "z"], 3),
-    ] {
-        assert_eq!(rt; depth(alloc, &calling(alloc, calls.as_slice())?), Ok(want));
-    }
-    assert_eq!(rt; depth(alloc, &parsed(alloc, b"")?), Ok(0));
-    Ok(())
-}
-
-#[test]
-fn the_first_call_that_leads_back_is_told(rt: HostRuntime) -> Result<(), Fail> {
-    let alloc = rt.alloc();
-    for (calls, line) in [
+        // A procedure is one deeper than those that it calls.
+        (["z", "z", "z"], Ok(2)),
+        (["p1", "p2", "z"], Ok(4)),
+        (["p2", "z", "p1"], Ok(4)),
+        (["p2", "p2", "z"], Ok(3)),
         // A procedure that calls itself, which nobody calls.
-        (["p0", "z", "z"], 18),
-        (["z", "z", "p2"], 30),
+        (["p0", "z", "z"], Err(RuleFault::Recursion { line: 18 })),
+        (["z", "z", "p2"], Err(RuleFault::Recursion { line: 30 })),
         // Both calls of a circle lead back; the one into it doesn't.
-        (["p2", "p2", "p1"], 24),
-        (["p1", "p2", "p1"], 24),
-        (["p2", "p0", "p1"], 18),
+        (["p2", "p2", "p1"], Err(RuleFault::Recursion { line: 24 })),
+        (["p1", "p2", "p1"], Err(RuleFault::Recursion { line: 24 })),
+        (["p2", "p0", "p1"], Err(RuleFault::Recursion { line: 18 })),
     ] {
-        let fault = RuleFault::Recursion { line };
-        assert_eq!(rt;
-            depth(alloc, &calling(alloc, calls.as_slice())?),
-            Err(fault)
-        );
+        let lines = calling(rt.alloc(), calls)?;
+        assert_eq!(rt; depth_of(rt.alloc(), lines.as_slice())?, want);
     }
     Ok(())
 }
 
-// A program whose procedures call once each, on lines and procedures that no text has: the line, and the procedure that is called.
-fn built(alloc: Global, calls: &[(u32, u16)]) -> Result<Program, AllocError> {
-    let mut program = program(alloc, Vec::new(alloc))?;
-    for (line, proc) in calls {
-        let form = Form::Call { proc: *proc };
-        program
-            .procs
-            .push(procedure(alloc, Stmt { line: *line, form })?)?;
-    }
-    Ok(program)
-}
-
-#[test]
-fn a_procedure_that_is_not_there_calls_nothing(rt: HostRuntime) -> Result<(), Fail> {
-    let program = built(rt.alloc(), &[(10, 9), (20, 9), (30, 9)])?;
-    assert_eq!(rt; depth(rt.alloc(), &program), Ok(2));
-    Ok(())
+// How deep the first of three procedures calls that call once each, on lines and procedures that no text has.
+fn depth_by_calls(alloc: Global, calls: &[(u32, u16)]) -> Result<Result<u32, RuleFault>, Fail> {
+    let lines =
+        b"proc p\ncall p\nendproc\nproc q\ncall q\nendproc\nproc r\ncall r\nendproc\n".as_slice();
+    let mut program = parsed(alloc, DECLARED, lines)?;
+    call_in_each(program.procs.as_mut_slice(), calls);
+    Ok(depth(alloc, &program))
 }
 
 #[test]
 fn the_first_line_is_told_where_procedures_stand_in_another_order(
     rt: HostRuntime,
 ) -> Result<(), Fail> {
-    let alloc = rt.alloc();
-    for (calls, line) in [
-        ([(10, 1), (30, 2), (20, 1)], 20),
-        ([(30, 1), (20, 0), (10, 1)], 20),
-        ([(30, 1), (20, 2), (10, 0)], 10),
+    for (calls, want) in [
+        // A procedure that is not there calls nothing.
+        ([(10, 9), (20, 9), (30, 9)], Ok(2)),
+        (
+            [(10, 1), (30, 2), (20, 1)],
+            Err(RuleFault::Recursion { line: 20 }),
+        ),
+        (
+            [(30, 1), (20, 0), (10, 1)],
+            Err(RuleFault::Recursion { line: 20 }),
+        ),
+        (
+            [(30, 1), (20, 2), (10, 0)],
+            Err(RuleFault::Recursion { line: 10 }),
+        ),
     ] {
-        let fault = RuleFault::Recursion { line };
-        assert_eq!(rt; depth(alloc, &built(alloc, calls.as_slice())?), Err(fault));
+        assert_eq!(rt; depth_by_calls(rt.alloc(), &calls)?, want);
     }
     Ok(())
 }

@@ -1,9 +1,9 @@
 //! The classes of scalars and the sides of local arrays.
 
-use crate::building::{one, program, within};
-use crate::texts::parsed;
+use crate::lines::call_within;
+use crate::texts::{DECLARED, parsed};
 use scalar_discipline::classes;
-use sial_syntax::{Form, Program, ScalarClass, Side, Stmt};
+use sial_syntax::{Program, ScalarClass, Side};
 use std::alloc::{AllocError, Global};
 use std::test::Fail;
 
@@ -44,6 +44,12 @@ fn letters(alloc: Global, program: &Program) -> Result<(u8, u8, u8), AllocError>
     ))
 }
 
+// The same of a program of these lines.
+fn letters_of(alloc: Global, lines: &[u8]) -> Result<(u8, u8, u8), Fail> {
+    let program = parsed(alloc, DECLARED, lines)?;
+    Ok(letters(alloc, &program)?)
+}
+
 const WRITES: [(&[u8], (u8, u8, u8)); 9] = [
     (b"pardo i\ns = 1\nendpardo\n", (b'v', b'r', b'u')),
     (b"pardo i\ns *= 1\nendpardo\n", (b'v', b'r', b'u')),
@@ -60,8 +66,7 @@ const WRITES: [(&[u8], (u8, u8, u8)); 9] = [
 #[test]
 fn writes_within_a_pardo_make_the_class(rt: HostRuntime) -> Result<(), Fail> {
     for (lines, want) in WRITES {
-        let program = parsed(rt.alloc(), lines)?;
-        assert_eq!(rt; letters(rt.alloc(), &program)?, want);
+        assert_eq!(rt; letters_of(rt.alloc(), lines)?, want);
     }
     Ok(())
 }
@@ -85,18 +90,26 @@ const CALLS: [(&[u8], (u8, u8, u8)); 4] = [
 #[test]
 fn a_called_procedure_has_the_sides_of_its_calls(rt: HostRuntime) -> Result<(), Fail> {
     for (lines, want) in CALLS {
-        let program = parsed(rt.alloc(), lines)?;
-        assert_eq!(rt; letters(rt.alloc(), &program)?, want);
+        assert_eq!(rt; letters_of(rt.alloc(), lines)?, want);
     }
     Ok(())
 }
 
-// No text calls a procedure that isn't there.
+// A program that calls a procedure within a pardo, and has none: no text calls a procedure that isn't there.
+fn calling_none(alloc: Global) -> Result<Program, Fail> {
+    let mut program = parsed(
+        alloc,
+        DECLARED,
+        b"proc p\nendproc\npardo i, j\ncall p\nendpardo\n",
+    )?;
+    program.procs = Vec::new(alloc);
+    call_within(program.body.as_mut_slice(), 30, 9);
+    Ok(program)
+}
+
 #[test]
 fn a_procedure_that_is_not_there_has_no_side(rt: HostRuntime) -> Result<(), Fail> {
-    let alloc = rt.alloc();
-    let form = Form::Call { proc: 9 };
-    let body = within(alloc, one(alloc, Stmt { line: 30, form })?)?;
-    assert_eq!(rt; letters(alloc, &program(alloc, body)?)?, (b'r', b'r', b'u'));
+    let program = calling_none(rt.alloc())?;
+    assert_eq!(rt; letters(rt.alloc(), &program)?, (b'r', b'r', b'u'));
     Ok(())
 }

@@ -1,23 +1,15 @@
-//! Trees and inputs, granted or refused, through public calls alone.
+//! Programs, granted or refused by the rules, through public calls alone.
 #![tactic(auto)]
 
-#[cfg(test)]
-mod building;
 #[cfg(test)]
 mod calls;
 #[cfg(test)]
 mod classes;
 #[cfg(test)]
-mod inputs;
-#[cfg(test)]
-mod resolved;
-#[cfg(test)]
-mod segments;
+mod lines;
 #[cfg(test)]
 mod shape_faults;
 #[cfg(test)]
 mod side_faults;
-#[cfg(test)]
-mod space_faults;
 #[cfg(test)]
 mod texts;

@@ -1,11 +1,23 @@
-//! What the shape rules refuse, and which fault comes first.
+//! What the shape rules grant and refuse, and which fault comes first.
 
-use crate::building::{D, I, J, M, V, fill, get, program, two, within};
-use crate::texts::parsed;
+use crate::lines::put_on_lines;
+use crate::texts::{DECLARED, parsed};
 use shape_check::{ShapeFault, shapes};
-use sial_syntax::Stmt;
-use std::alloc::{AllocError, Global};
+use sial_syntax::Program;
+use std::alloc::Global;
 use std::test::Fail;
+
+// What is wrong with the shape of a program, if anything.
+fn judged(alloc: Global, program: &Program) -> Option<ShapeFault> {
+    shapes(alloc, program).err()
+}
+
+// The same of the program of these lines; within a pardo the statements stand on lines of their own, where some are told.
+fn fault_of(alloc: Global, lines: &[u8], numbers: &[u32]) -> Result<Option<ShapeFault>, Fail> {
+    let mut program = parsed(alloc, DECLARED, lines)?;
+    put_on_lines(program.body.as_mut_slice(), numbers);
+    Ok(judged(alloc, &program))
+}
 
 const GRANTED: [&[u8]; 9] = [
     b"",
@@ -25,7 +37,7 @@ const GRANTED: [&[u8]; 9] = [
 #[test]
 fn programs_that_keep_the_rules_are_granted(rt: HostRuntime) -> Result<(), Fail> {
     for lines in GRANTED {
-        assert_eq!(rt; shapes(rt.alloc(), &parsed(rt.alloc(), lines)?), Ok(()));
+        assert_eq!(rt; fault_of(rt.alloc(), lines, &[])?, None);
     }
     Ok(())
 }
@@ -112,40 +124,35 @@ const FAULTS: [(&[u8], ShapeFault); 18] = [
 #[test]
 fn each_rule_has_its_fault_and_line(rt: HostRuntime) -> Result<(), Fail> {
     for (lines, fault) in FAULTS {
-        assert_eq!(rt; shapes(rt.alloc(), &parsed(rt.alloc(), lines)?), Err(fault));
+        assert_eq!(rt; fault_of(rt.alloc(), lines, &[])?, Some(fault));
     }
     Ok(())
 }
 
-// What the rules say of two statements within a pardo over `i` and `j`, which no text has on these lines.
-fn judged(alloc: Global, first: Stmt, second: Stmt) -> Result<Result<(), ShapeFault>, AllocError> {
-    let statements = two(alloc, first, second)?;
-    let body = within(alloc, statements)?;
-    let program = program(alloc, body)?;
-    Ok(shapes(alloc, &program))
-}
+const TWO_FAULTS: [(&[u8], [u32; 2], ShapeFault); 3] = [
+    // Of two faults on one line that of the lower number is told, in both orders.
+    (
+        b"pardo i, j\nget v(i)\nget d(i,j)\nendpardo\n",
+        [21, 21],
+        ShapeFault::WrongKind { line: 21 },
+    ),
+    (
+        b"pardo i, j\nget d(i,j)\nget v(i)\nendpardo\n",
+        [21, 21],
+        ShapeFault::WrongKind { line: 21 },
+    ),
+    // The fault of the lower line is told also where it stands behind.
+    (
+        b"pardo i, j\nget d(m)\nd(i) = 3\nendpardo\n",
+        [23, 22],
+        ShapeFault::NotWritable { line: 22 },
+    ),
+];
 
 #[test]
-fn of_two_faults_on_one_line_that_of_the_lower_number_is_told(rt: HostRuntime) -> Result<(), Fail> {
-    let alloc = rt.alloc();
-    for swapped in [false, true] {
-        let kind = get(alloc, 21, V, &[I])?;
-        let rank = get(alloc, 21, D, &[I, J])?;
-        let (first, second) = if swapped { (rank, kind) } else { (kind, rank) };
-        let fault = ShapeFault::WrongKind { line: 21 };
-        assert_eq!(rt; judged(alloc, first, second)?, Err(fault));
+fn of_two_faults_the_first_is_told(rt: HostRuntime) -> Result<(), Fail> {
+    for (lines, numbers, fault) in TWO_FAULTS {
+        assert_eq!(rt; fault_of(rt.alloc(), lines, &numbers)?, Some(fault));
     }
-    Ok(())
-}
-
-#[test]
-fn the_fault_of_the_lower_line_is_told_also_where_it_stands_behind(
-    rt: HostRuntime,
-) -> Result<(), Fail> {
-    let alloc = rt.alloc();
-    let later = get(alloc, 23, D, &[M])?;
-    let earlier = fill(alloc, 22, D, &[I])?;
-    let fault = ShapeFault::NotWritable { line: 22 };
-    assert_eq!(rt; judged(alloc, later, earlier)?, Err(fault));
     Ok(())
 }

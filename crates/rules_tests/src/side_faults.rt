@@ -1,7 +1,8 @@
 //! Programs that keep the side rules, and programs that don't, from their texts.
 
+use crate::texts::parsed;
 use scalar_discipline::{RuleFault, classify};
-use sial_parser::parse;
+use sial_syntax::Program;
 use std::alloc::Global;
 use std::test::Fail;
 
@@ -9,15 +10,18 @@ use std::test::Fail;
 const DECLARED: &[u8] =
     b"sial n\naoindex i = 1, 2\naoindex j = 1, 2\nstatic a(i)\nlocal l(i)\ntemp t(i)\ndistributed d(i)\nscalar s\nscalar e\n";
 
-// What is wrong with the sides of a program of these lines, if anything.
-fn fault_of(alloc: Global, lines: &[u8]) -> Result<Option<RuleFault>, Fail> {
-    let mut text = Vec::from_slice(alloc, DECLARED)?;
-    text.extend_from_slice(lines)?;
-    text.extend_from_slice(b"endsial\n")?;
-    match parse(alloc, text.as_slice()) {
-        Ok(program) => Ok(classify(alloc, &program).err()),
-        Err(_) => Ok(Some(RuleFault::OutOfMemory)),
+// What is wrong with the sides of a program, if anything.
+fn judged(alloc: Global, program: &Program) -> Option<RuleFault> {
+    if program.procs.len() > 256 {
+        return Some(RuleFault::OutOfMemory);
     }
+    classify(alloc, program).err()
+}
+
+// The same of a program of these lines.
+fn fault_of(alloc: Global, lines: &[u8]) -> Result<Option<RuleFault>, Fail> {
+    let program = parsed(alloc, DECLARED, lines)?;
+    Ok(judged(alloc, &program))
 }
 
 const FAULTS: [(&[u8], RuleFault); 13] = [
@@ -115,9 +119,9 @@ fn chain(alloc: Global, count: u32) -> Result<Vec<u8>, Fail> {
 
 #[test]
 fn sixteen_calls_deep_are_granted_and_seventeen_are_not(rt: HostRuntime) -> Result<(), Fail> {
-    let alloc = rt.alloc();
-    assert_eq!(rt; fault_of(alloc, chain(alloc, 16)?.as_slice())?, None);
-    let fault = RuleFault::CallTooDeep { line: 60 };
-    assert_eq!(rt; fault_of(alloc, chain(alloc, 17)?.as_slice())?, Some(fault));
+    for (count, fault) in [(16, None), (17, Some(RuleFault::CallTooDeep { line: 60 }))] {
+        let lines = chain(rt.alloc(), count)?;
+        assert_eq!(rt; fault_of(rt.alloc(), lines.as_slice())?, fault);
+    }
     Ok(())
 }
